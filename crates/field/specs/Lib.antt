@@ -1,0 +1,7 @@
+pub mod Says
+pub mod Kept
+pub mod Sum
+pub mod Numbers
+pub mod Bits
+pub mod Runs
+pub mod Parts

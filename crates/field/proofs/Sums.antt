@@ -1,10 +1,14 @@
 -- The laws of sums. Assumes nothing.
-use mathlib.Core.Path.{_≡_, refl, ap₂}
+use mathlib.Core.Path.{_≡_, refl, sym, ap, ap₂, _∙_}
 use mathlib.Core.Logic.{_≢_, ⊎-elim}
+use mathlib.Core.Bool.{cond}
 use Prim.Native.Nat.{ℕ, zero, suc, _+_, _≤_, _<_}
 use native.Mathlib.Nat.{eq-or-lt-of-le, le-of-suc-le-suc, not-suc-le-zero, le-refl, add-zero, add-suc}
 use native.Mathlib.Numerals.{add-one}
+use native.Mathlib.Decide.{ℕ-discrete, decLt}
 use native.Mathlib.Omega.{arith}
+use lib.Dec.{eqb}
+use borrow.Author.Tests.{eq-eqb, ne-eqb}
 use Rattle.field.specs.Sum.{sumTo}
 
 -- the code's i + 1 against the definition's suc i
@@ -67,3 +71,41 @@ pub sum-cut : (m n : ℕ) (f : ℕ → ℕ) → sumTo (m + n) f ≡ sumTo m f + 
 unfolding sumTo
 sum-cut m zero f = rw add-zero (omega arith)
 sum-cut m (suc n) f = rw add-suc (omega (arith, sum-cut m n f))
+
+-- ---- which parts are more than 0
+
+pub sum-some : (n : ℕ) (f : ℕ → ℕ) → 0 < sumTo n f → (k : ℕ) × (k < n) × (0 < f k)
+unfolding sumTo
+sum-some zero f h = absurd (omega arith)
+sum-some (suc n) f h = elim (decLt 0 (f n)) [ yes l ↦ (n, omega arith, l) | no l ↦ (let r = sum-some n f (omega arith) in (r .0, omega (arith, r .1), r .2)) ]
+
+-- two parts at different places are together no more than the sum
+pub sum-two : (n i j : ℕ) (f : ℕ → ℕ) → i < j → j < n → f i + f j ≤ sumTo n f
+unfolding sumTo
+sum-two zero i j f l h = absurd (not-suc-le-zero h)
+sum-two (suc n) i j f l h =
+    ⊎-elim (λ e. rw e (omega (arith, sum-part n i f (omega arith)))) (λ lt. omega (arith, sum-two n i j f l lt)) (eq-or-lt-of-le (le-of-suc-le-suc h))
+
+pub sum-single : (n : ℕ) (f : ℕ → ℕ) → sumTo n f ≤ 1 → (i : ℕ) → i < n → 0 < f i → (j : ℕ) → j < n → 0 < f j → i ≡ j
+sum-single n f h i li pi j lj pj =
+    elim (decLt i j) [ yes l ↦ absurd (omega (arith, sum-two n i j f l lj)) | no l ↦ elim (decLt j i) [ yes m ↦ absurd (omega (arith, sum-two n j i f m li)) | no m ↦ omega arith ] ]
+
+-- what stands at m different places is taken out of a sum
+pub sum-out : (n m : ℕ) (F f f' : ℕ → ℕ) → ((k : ℕ) → k < m → F k < n) → ((k : ℕ) → k < m → (j : ℕ) → j < k → F j ≢ F k)
+    → ((k : ℕ) → k < m → f' (F k) ≡ 0) → ((i : ℕ) → i < n → ((k : ℕ) → k < m → F k ≢ i) → f' i ≡ f i)
+    → sumTo n f' + sumTo m (λ k. f (F k)) ≡ sumTo n f
+unfolding sumTo
+sum-out n zero F f f' below once zeros same = omega (arith, sum-same n f' f (λ i l. same i l (λ k lk. absurd (not-suc-le-zero lk))))
+sum-out n (suc m) F f f' below once zeros same =
+    let g : ℕ → ℕ = λ i. cond (eqb i (F m)) 0 (f i) in
+    let ih = sum-out n m F (λ i. cond (eqb i (F m)) 0 (f i)) f' (λ k l. below k (omega arith)) (λ k l. once k (omega arith)) (λ k l. zeros k (omega arith)) (λ i l ne. at i l ne) in
+    let d = sum-at n (F m) f (λ i. cond (eqb i (F m)) 0 (f i)) (below m (omega arith)) (λ i l ne. rw (ne-eqb i (F m) ne) refl) in
+    let z : cond (eqb (F m) (F m)) 0 (f (F m)) ≡ 0 = rw (eq-eqb (F m) (F m) refl) refl in
+    let s : sumTo m (λ k. cond (eqb (F k) (F m)) 0 (f (F k))) ≡ sumTo m (λ k. f (F k)) = sum-same m _ _ (λ k l. rw (ne-eqb (F k) (F m) (once m (omega arith) k l)) refl) in
+    omega arith
+  where
+    at : (i : ℕ) → i < n → ((k : ℕ) → k < m → F k ≢ i) → f' i ≡ cond (eqb i (F m)) 0 (f i)
+    at i l ne = elim (ℕ-discrete i (F m)) [
+      | yes e ↦ rw (eq-eqb i (F m) e, e) (zeros m (omega arith))
+      | no d ↦ rw (ne-eqb i (F m) d) (same i l (λ k lk. elim (ℕ-discrete k m) [ yes q ↦ (λ e. d (sym e ∙ ap F q)) | no q ↦ ne k (omega arith) ]))
+    ]

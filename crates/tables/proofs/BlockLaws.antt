@@ -1,0 +1,50 @@
+-- Blocks: the six sizes once, and what follows for any size that makes up a zone. Assumes nothing.
+use mathlib.Core.Path.{_≡_, refl, sym, ap, _∙_, subst}
+use Prim.Native.Nat.{ℕ, zero, suc, _+_, _-_, _*_, _/_, _≤_, _<_}
+use native.Mathlib.Nat.{mul-le-mul-right, add-mul, one-mul}
+use native.Mathlib.Decide.{ℕ-discrete}
+use native.Mathlib.Omega.{arith}
+use lib.Dec.{T, ltb, lit<}
+use Rattle.tables.specs.Blocks.{Typed, blockOf, Block}
+
+-- what holds of the types C to H holds of every type 3-8
+pub six : (P : ℕ → Type 0) → P 3 → P 4 → P 5 → P 6 → P 7 → P 8 → (t : ℕ) → Typed t → P t
+six P c d e f g h t typed =
+    elim (ℕ-discrete t 3) [
+      | yes q ↦ subst P (sym q) c
+      | no n3 ↦ elim (ℕ-discrete t 4) [
+        | yes q ↦ subst P (sym q) d
+        | no n4 ↦ elim (ℕ-discrete t 5) [
+          | yes q ↦ subst P (sym q) e
+          | no n5 ↦ elim (ℕ-discrete t 6) [
+            | yes q ↦ subst P (sym q) f
+            | no n6 ↦ elim (ℕ-discrete t 7) [
+              | yes q ↦ subst P (sym q) g
+              | no n7 ↦ (let q : 8 ≡ t = omega arith in subst P q h)
+            ]
+          ]
+        ]
+      ]
+    ]
+
+-- the six sizes, by computation
+pub block-of : (t : ℕ) → Typed t → Block (blockOf t)
+unfolding blockOf
+block-of = six (λ t. Block (blockOf t)) (one tt refl) (one tt refl) (one tt refl) (one tt refl) (one tt refl) (one tt refl)
+  where
+    one : {size : ℕ} → T (ltb 0 size) → 1024 / size * size ≡ 1024 → Block size
+    one l e = record { some = lit< l; whole = e }
+
+-- a block of so many ends before the next begins
+pub block-end : (i count size : ℕ) → i < count → i * size + size ≤ count * size
+block-end i count size lt = omega (arith, mul-le-mul-right {m = i + 1} {n = count} size (omega arith), add-mul i 1 size, one-mul size)
+
+-- block k ends within the zone
+pub block-in : (k size : ℕ) → Block size → k < 1024 / size → k * size + size ≤ 1024
+block-in k size b l = omega (arith, block-end k (1024 / size) size l, b .whole)
+
+-- a size that is found by the type
+pub size-at : (t n size : ℕ) → Typed t → t ≡ n → size ≡ blockOf n → (size ≡ blockOf t) × Block size
+size-at t n size typed e h =
+    let q : size ≡ blockOf t = h ∙ ap blockOf (sym e) in
+    (q, subst Block (sym q) (block-of t typed))

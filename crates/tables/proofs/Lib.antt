@@ -1,0 +1,6 @@
+pub mod BlockLaws
+pub mod IndexLaws
+pub mod NameLaws
+pub mod ChainLaws
+pub mod PointerLaws
+pub mod Worked

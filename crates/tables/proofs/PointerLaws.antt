@@ -1,0 +1,117 @@
+-- Sectors under pointers: a run as a function that is 1 on it, and what R7's count says of single pointers. Assumes nothing.
+use mathlib.Core.Path.{_≡_, refl, sym, ap, _∙_}
+use mathlib.Core.Logic.{_≢_, _⊎_, inl, inr, ⊎-elim}
+use Prim.Native.Nat.{ℕ, zero, suc, _+_, _-_, _*_, _≤_, _<_}
+use native.Mathlib.Decide.{decLt, decLe}
+use native.Mathlib.Omega.{arith}
+use borrow.Author.Tests.{le-leb, lt-leb, lt-ltb, le-ltb}
+use Rattle.field.proofs.Sums.{sum-some, sum-single, sum-part}
+use Rattle.tables.specs.Indexes.{slotsOf, startOf, countOf, Used}
+use Rattle.tables.specs.Views.{View, cov, overOf, tally, pointersOver, Under}
+use Rattle.tables.specs.Rules.R6.{R6}
+use Rattle.tables.specs.Rules.R7.{R7}
+
+-- ---- runs
+
+pub cov-in : (a c s : ℕ) → a ≤ s → s < a + c → cov a c s ≡ 1
+unfolding cov
+cov-in a c s h l = rw (le-leb a s h, lt-ltb s (a + c) l)
+
+pub cov-before : (a c s : ℕ) → s < a → cov a c s ≡ 0
+unfolding cov
+cov-before a c s h = rw (lt-leb a s h)
+
+pub cov-after : (a c s : ℕ) → a + c ≤ s → cov a c s ≡ 0
+unfolding cov
+cov-after a c s h = rw (le-leb a s (omega arith), le-ltb s (a + c) h)
+
+pub record Hit (a c s : ℕ) : Type 0 where
+  pub low : a ≤ s
+  pub high : s < a + c
+  pub one : cov a c s ≡ 1
+
+pub cov-cases : (a c s : ℕ) → Hit a c s ⊎ (cov a c s ≡ 0)
+cov-cases a c s =
+    elim (decLe a s) [
+      | yes h ↦ elim (decLt s (a + c)) [ yes l ↦ inl (record { low = h; high = l; one = cov-in a c s h l }) | no l ↦ inr (cov-after a c s (omega arith)) ]
+      | no h ↦ inr (cov-before a c s (omega arith))
+    ]
+
+-- a run of no sectors, and one that two make up
+pub cov-none : (a s : ℕ) → cov a 0 s ≡ 0
+cov-none a s = elim (decLt s a) [ yes h ↦ cov-before a 0 s h | no h ↦ cov-after a 0 s (omega arith) ]
+
+pub cov-join : (a c d s : ℕ) → cov a (c + d) s ≡ cov a c s + cov (a + c) d s
+cov-join a c d s =
+    elim (decLt s a) [
+      | yes h ↦ omega (arith, cov-before a (c + d) s h, cov-before a c s h, cov-before (a + c) d s (omega arith))
+      | no h ↦ elim (decLt s (a + c)) [
+        | yes l ↦ omega (arith, cov-in a (c + d) s (omega arith) (omega arith), cov-in a c s (omega arith) l, cov-before (a + c) d s l)
+        | no l ↦ elim (decLt s (a + c + d)) [
+          | yes m ↦ omega (arith, cov-in a (c + d) s (omega arith) (omega arith), cov-after a c s (omega arith), cov-in (a + c) d s (omega arith) m)
+          | no m ↦ omega (arith, cov-after a (c + d) s (omega arith), cov-after a c s (omega arith), cov-after (a + c) d s (omega arith))
+        ]
+      ]
+    ]
+
+-- ---- a count of 1 is exactly one pointer
+
+module _ (v : View) (s : ℕ) where
+  over-at : (i j : ℕ) → Under v i j s → 0 < overOf i (v .table i) s
+  unfolding overOf
+  over-at i j u = omega (arith, cov-in _ _ s (u .from) (u .to), sum-part (slotsOf i (v .table i)) j (λ j. cov (startOf i (v .table i) j) (countOf i (v .table i) j) s) (u .slot))
+
+  pub under-counts : (i j : ℕ) → Under v i j s → 0 < pointersOver v s
+  unfolding pointersOver tally
+  under-counts i j u =
+      let a : i - 1 + 1 ≡ i = omega (arith, u .low) in
+      omega (arith, over-at i j u, rw a at (sum-part (v .indexes) (i - 1) (λ n. overOf (n + 1) (v .table (n + 1)) s) (omega (arith, u .low, u .high))))
+
+  -- a set sector is under a pointer, and no sector is under two
+  pub under-some : 0 < pointersOver v s → (i : ℕ) × (j : ℕ) × Under v i j s
+  unfolding overOf pointersOver tally
+  under-some h =
+      let o = sum-some (v .indexes) _ h in
+      let p = sum-some (slotsOf (o .0 + 1) (v .table (o .0 + 1))) _ (o .2) in
+      (o .0 + 1, p .0, ⊎-elim (λ c. record { low = omega arith; high = omega (arith, o .1); slot = p .1; from = c .low; to = c .high }) (λ z. absurd (omega (arith, p .2))) (cov-cases _ _ s))
+
+  pub under-one : pointersOver v s ≤ 1 → (i j : ℕ) → Under v i j s → (k l : ℕ) → Under v k l s → (i ≡ k) × (j ≡ l)
+  unfolding overOf pointersOver tally
+  under-one h i j u k l w =
+      let f : ℕ → ℕ = λ n. overOf (n + 1) (v .table (n + 1)) s in
+      let a : i - 1 + 1 ≡ i = omega (arith, u .low) in
+      let b : k - 1 + 1 ≡ k = omega (arith, w .low) in
+      let p : 0 < overOf (i - 1 + 1) (v .table (i - 1 + 1)) s = rw a (over-at i j u) in
+      let q : 0 < overOf (k - 1 + 1) (v .table (k - 1 + 1)) s = rw b (over-at k l w) in
+      let e : i - 1 ≡ k - 1 = sum-single (v .indexes) (λ n. overOf (n + 1) (v .table (n + 1)) s) h (i - 1) (omega (arith, u .low, u .high)) p (k - 1) (omega (arith, w .low, w .high)) q in
+      let ik : i ≡ k = omega (arith, u .low, w .low) in
+      let le : overOf i (v .table i) s ≤ 1 = omega (arith, rw a at (sum-part (v .indexes) (i - 1) (λ n. overOf (n + 1) (v .table (n + 1)) s) (omega (arith, u .low, u .high)))) in
+      let w' : Under v i l s = rw ik w in (
+        ik,
+        sum-single (slotsOf i (v .table i)) (λ j. cov (startOf i (v .table i) j) (countOf i (v .table i) j) s) le
+            j (u .slot) (omega (arith, cov-in _ _ s (u .from) (u .to))) l (w' .slot) (omega (arith, cov-in _ _ s (w' .from) (w' .to))),
+      )
+
+-- ---- R7 in the paper's words
+
+module _ (v : View) (r6 : R6 v) (r7 : R7 v) (bits : (s : ℕ) → v .bit s < 2) where
+  -- what lies under a pointer lies outside zones 1 and Z
+  pub under-inside : (i j s : ℕ) → Under v i j s → (1024 ≤ s) × (s < 1024 * (v .zones - 1))
+  under-inside i j s u =
+      let run = r6 i (u .low) (u .high) .used j (u .slot) (omega (arith, u .from, u .to)) in
+      (omega (arith, run .low, u .from), omega (arith, run .high, u .to))
+
+  -- "No sector is under two pointers."
+  pub one-pointer : (s i j k l : ℕ) → Under v i j s → Under v k l s → (i ≡ k) × (j ≡ l)
+  one-pointer s i j k l u w =
+      let h = under-inside i j s u in
+      under-one v s (omega (arith, r7 s (h .1) (h .0), bits s)) i j u k l w
+
+  -- "the set bits are exactly the sectors under pointers"
+  pub set-under : (s : ℕ) → s < 1024 * (v .zones - 1) → 1024 ≤ s → v .bit s ≡ 1 → (i : ℕ) × (j : ℕ) × Under v i j s
+  set-under s l h e = under-some v s (omega (arith, r7 s l h))
+
+  pub under-set : (s i j : ℕ) → Under v i j s → v .bit s ≡ 1
+  under-set s i j u =
+      let h = under-inside i j s u in
+      omega (arith, r7 s (h .1) (h .0), bits s, under-counts v s i j u)

@@ -1,0 +1,16 @@
+use Rattle.tables.specs.Entries.{sizeOf}
+use borrow.Author.Tests.{eq-eqb, ne-eqb}
+use borrow.Author.Needs.{needs}
+use Rattle.tables.proofs.entry.size_of.Statement.{statement}
+use Rattle.tables.proofs.entry.size_of.Tie as tie
+
+returns : tie.Need-returns
+unfolding sizeOf
+returns c = simp (eq-eqb _ _ (c .if1 .taken))
+
+returns-2 : tie.Need-returns-2
+unfolding sizeOf
+returns-2 c = simp (ne-eqb _ _ (c .if1 .left))
+
+pub size-of-spec : {M : Type 1} → statement M
+size-of-spec = tie.close (tie.spec returns returns-2)

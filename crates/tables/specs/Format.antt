@@ -1,0 +1,61 @@
+-- "Format zeroes the books, writes both sectors, tables from sector 2 on without gaps, free chain 1, 2, ..., N, flag 0.
+-- Initialization and update dates are the one given."
+use Prim.Native.Nat.{ℕ, zero, suc, _+_, _-_, _*_}
+use mathlib.Core.List.{List}
+use lib.ListN.{replicate}
+use Rattle.field.specs.Numbers.{putU16, putU32}
+use Rattle.field.specs.Parts.{over}
+use Rattle.tables.specs.declared.places.Places.{Places}
+use Rattle.tables.specs.Zones.{putZone}
+use Rattle.tables.specs.Rules.R1.{zoneBytes, sectorBytes, ceil}
+
+-- what a volume is called
+pub record Label : Type 0 where
+  pub application : List ℕ
+  pub volume : List ℕ
+  pub id : ℕ
+  pub owner : List ℕ
+  pub code : List ℕ
+  pub date : List ℕ
+
+-- "tables from sector 2 on without gaps"
+abbrev pub freshPlaces : ℕ → ℕ → Places
+freshPlaces z n = record {
+  zones = z;
+  indexes = n;
+  zonetable = 2048;
+  sectortable = 2048 + zoneBytes z;
+  indextable = 2048 + zoneBytes z + sectorBytes z;
+}
+
+-- sector 0: texts, padded with the nulls that are there, and the date
+unfoldable pub putLabel : List ℕ → Label → List ℕ
+putLabel b l = over (over (over (putU32 (over (over b 8 (l .application)) 24 (l .volume)) 56 (l .id)) 60 (l .owner)) 92 (l .code)) 124 (l .date)
+
+-- sector 0: mark "IS&C", version "01.0", sizes
+unfoldable pub putSizes : List ℕ → ℕ → List ℕ
+putSizes b z = putU16 (putU16 (putU16 (putU32 (putU32 (putU32 b 0 0x49532643) 4 0x30312e30) 130 z) 134 1024) 136 1024) 150 128
+
+-- sector 0: the start sectors
+unfoldable pub putStarts : List ℕ → ℕ → List ℕ
+putStarts b z = putU32 (putU32 (putU32 b 138 2) 142 (2 + ceil (6 * z) 1024)) 146 (2 + ceil (6 * z) 1024 + ceil z 8)
+
+-- sector 1: N index tables, all free, the first of them 1; no file, flag 0
+unfoldable pub putStatus : List ℕ → ℕ → List ℕ → List ℕ
+putStatus b n d = putU32 (over (putU32 (putU32 b 1024 n) 1036 n) 1044 d) 1050 1
+
+-- zones 1 and Z, and their sector bits
+unfoldable pub putSystem : Places → List ℕ → List ℕ
+putSystem p b =
+    over (over (putZone p (putZone p b 1 1 65535 (p .zones)) (p .zones) 65535 65535 1) (p .sectortable) (replicate 128 255)) (p .sectortable + 128 * (p .zones - 1)) (replicate 128 255)
+
+-- index tables 1 to k link to the next
+unfoldable pub putLinks : Places → List ℕ → ℕ → List ℕ
+putLinks p b zero = b
+putLinks p b (suc k) = putU32 (putLinks p b k) (p .indextable + 128 * k + 124) (k + 2)
+
+-- books of len bytes, formatted for Z zones and N index tables
+unfoldable pub formatted : ℕ → ℕ → ℕ → Label → List ℕ
+unfolding putLabel putSizes putStarts putStatus putSystem putLinks
+formatted len z n l =
+    putLinks (freshPlaces z n) (putSystem (freshPlaces z n) (putStatus (putStarts (putSizes (putLabel (replicate len 0) l) z) z) n (l .date))) (n - 1)

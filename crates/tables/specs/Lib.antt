@@ -1,0 +1,15 @@
+pub mod Kinds
+pub mod Sector0
+pub mod Sector1
+pub mod Places
+pub mod Blocks
+pub mod Zones
+pub mod Sectors
+pub mod Dates
+pub mod Names
+pub mod Indexes
+pub mod Entries
+pub mod Views
+pub mod Rules
+pub mod Lawful
+pub mod Format

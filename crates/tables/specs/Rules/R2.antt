@@ -1,0 +1,36 @@
+-- R2 "Zone 1 reads (1, -1, Z), zone Z reads (-1, -1, 1), and all their sector bits are set.
+-- Others: (0,0,0) with bits clear, or type 3-8 with third field 0."
+use mathlib.Core.Path.{_≡_}
+use mathlib.Core.Logic.{_⊎_}
+use Prim.Native.Nat.{ℕ, _+_, _≤_, _<_}
+use Rattle.tables.specs.declared.zone.ZoneEntry.{ZoneEntry}
+use Rattle.tables.specs.Kinds.{firstOf}
+use Rattle.tables.specs.Blocks.{Typed}
+use Rattle.tables.specs.Views.{View}
+
+-- the entry reads (t, f, h); -1 is read as 65535
+pub record Reads (e : ZoneEntry) (t f h : ℕ) : Type 0 where
+  pub ztype : e .ztype ≡ t
+  pub free : e .free ≡ f
+  pub third : e .third ≡ h
+
+-- every sector bit of zone z is w
+abbrev pub ZoneBits : View → ℕ → ℕ → Type 0
+ZoneBits v z w = (k : ℕ) → k < 1024 → v .bit (firstOf z + k) ≡ w
+
+-- (0,0,0) with bits clear
+pub record Untyped (v : View) (z : ℕ) : Type 0 where
+  pub reads : Reads (v .zone z) 0 0 0
+  pub clear : ZoneBits v z 0
+
+-- type 3-8 with third field 0
+pub record InUse (v : View) (z : ℕ) : Type 0 where
+  pub typed : Typed (v .zone z .ztype)
+  pub third : v .zone z .third ≡ 0
+
+pub record R2 (v : View) : Type 0 where
+  pub first : Reads (v .zone 1) 1 65535 (v .zones)
+  pub firstSet : ZoneBits v 1 1
+  pub last : Reads (v .zone (v .zones)) 65535 65535 1
+  pub lastSet : ZoneBits v (v .zones) 1
+  pub others : (z : ℕ) → z < v .zones → 2 ≤ z → Untyped v z ⊎ InUse v z

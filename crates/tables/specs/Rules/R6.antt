@@ -1,0 +1,29 @@
+-- R6 "Used pointers come first, unused ones are zero. A parent has one at least, and a zero header pointer. Each used pointer has a count
+-- of 1 to 32,767 and lies in zones of type 3-8; its part in each zone is whole blocks."
+use mathlib.Core.Path.{_≡_}
+use Prim.Native.Nat.{ℕ, suc, _+_, _-_, _*_, _≤_, _<_}
+use mathlib.Core.List.{List}
+use Rattle.field.specs.Parts.{AllBytes}
+use Rattle.tables.specs.Kinds.{zoneOf, firstOf}
+use Rattle.tables.specs.Blocks.{Typed, blockOf, Whole}
+use Rattle.tables.specs.Indexes.{wordOf, slotsOf, startOf, countOf, Used}
+use Rattle.tables.specs.Views.{View, cov}
+
+-- the c sectors from a on: a lawful run
+pub record Run (v : View) (a c : ℕ) : Type 0 where
+  pub some : 1 ≤ c
+  pub few : c ≤ 32767
+  pub low : 1024 ≤ a
+  pub high : a + c ≤ 1024 * (v .zones - 1)
+  pub typed : (s : ℕ) → s < a + c → a ≤ s → Typed (v .zone (zoneOf s) .ztype)
+  pub whole : (z : ℕ) → z < v .zones → 2 ≤ z → Typed (v .zone z .ztype) → Whole (cov a c) (firstOf z) (blockOf (v .zone z .ztype))
+
+-- index i, whose bytes are t; an unused pointer is zero by what unused means
+pub record Shape (v : View) (i : ℕ) (t : List ℕ) : Type 0 where
+  pub first : (j : ℕ) → suc j < slotsOf i t → Used i t (suc j) → Used i t j
+  pub used : (j : ℕ) → j < slotsOf i t → Used i t j → Run v (startOf i t j) (countOf i t j)
+  pub one : wordOf t ≡ i → Used i t 0
+  pub header : wordOf t ≡ i → AllBytes t 58 6 0
+
+abbrev pub R6 : View → Type 0
+R6 v = (i : ℕ) → 1 ≤ i → i ≤ v .indexes → Shape v i (v .table i)

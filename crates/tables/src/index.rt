@@ -1,0 +1,104 @@
+// An index table of 128 bytes, and one reader for each of its fields.
+use crate::kinds::Index;
+use crate::kinds::Sector;
+use crate::places::Places;
+use field::numbers::get_u16;
+use field::numbers::get_u32;
+ghost use mathlib.Core.Path.{_≡_};
+ghost use Prim.Native.Nat.{_+_, _*_, _≤_, _<_};
+ghost use lib.ListN.{length};
+ghost use Rattle.tables.specs.Places.{Layout};
+ghost use Rattle.tables.specs.Indexes.{tableAt, wordOf, parentOf, nameOf, createdOf, changedOf, lengthOf, attributeOf, linkOf, pointerAt};
+
+// A run of sectors: the first, and how many.
+pub struct Pointer {
+    pub start: Sector,
+    pub count: u32,
+}
+
+// The 128 bytes of index table i.
+pub fn table<'a>(b: &'a [u8], p: Places, i: Index) -> &'a [u8]
+    requires { ⌜ Layout p (length (now b)) ⌝ }
+    requires { ⌜ (1 ≤ i .0) × (i .0 ≤ p .indexes) ⌝ }
+    ensures { λ r. ⌜ (now r ≡ tableAt p (now (b .entry)) (i .0)) × (length (now r) ≡ 128) ⌝ }
+{
+    let at = p.indextable + 128 * (i.0 as usize - 1);
+    let end = at + 128;
+    &b[at..end]
+}
+
+// What the table begins with: 0, its number, or minus its number.
+pub fn first_word(t: &[u8]) -> u32
+    requires { ⌜ length (now t) ≡ 128 ⌝ }
+    ensures { λ r. ⌜ r ≡ wordOf (now (t .entry)) ⌝ }
+{
+    get_u32(t, 0)
+}
+
+// A child's parent.
+pub fn parent(t: &[u8]) -> Index
+    requires { ⌜ length (now t) ≡ 128 ⌝ }
+    ensures { λ r. ⌜ r .0 ≡ parentOf (now (t .entry)) ⌝ }
+{
+    Index(get_u32(t, 4))
+}
+
+// A parent's name, 24 bytes.
+pub fn name(t: &[u8]) -> &[u8]
+    requires { ⌜ length (now t) ≡ 128 ⌝ }
+    ensures { λ r. ⌜ (now r ≡ nameOf (now (t .entry))) × (length (now r) ≡ 24) ⌝ }
+{
+    &t[4..28]
+}
+
+// A parent's creation date.
+pub fn created(t: &[u8]) -> &[u8]
+    requires { ⌜ length (now t) ≡ 128 ⌝ }
+    ensures { λ r. ⌜ (now r ≡ createdOf (now (t .entry))) × (length (now r) ≡ 6) ⌝ }
+{
+    &t[28..34]
+}
+
+// A parent's change date.
+pub fn changed(t: &[u8]) -> &[u8]
+    requires { ⌜ length (now t) ≡ 128 ⌝ }
+    ensures { λ r. ⌜ (now r ≡ changedOf (now (t .entry))) × (length (now r) ≡ 6) ⌝ }
+{
+    &t[34..40]
+}
+
+// A parent's byte length.
+pub fn byte_length(t: &[u8]) -> u32
+    requires { ⌜ length (now t) ≡ 128 ⌝ }
+    ensures { λ r. ⌜ r ≡ lengthOf (now (t .entry)) ⌝ }
+{
+    get_u32(t, 40)
+}
+
+// A parent's attribute.
+pub fn attribute(t: &[u8]) -> u32
+    requires { ⌜ length (now t) ≡ 128 ⌝ }
+    ensures { λ r. ⌜ (r ≡ attributeOf (now (t .entry))) × (r < 65536) ⌝ }
+{
+    get_u16(t, 44)
+}
+
+// The pointer whose six bytes begin at `at`: a parent's header at 58, its ten from 64 on, a child's seventeen from 22 on.
+pub fn pointer_at(t: &[u8], at: usize) -> Pointer
+    requires { ⌜ length (now t) ≡ 128 ⌝ }
+    requires { ⌜ at + 6 ≤ 128 ⌝ }
+    ensures { λ r. ⌜ (r ≡ pointerAt (now (t .entry)) at) × (r .count < 65536) ⌝ }
+{
+    Pointer {
+        start: Sector(get_u32(t, at)),
+        count: get_u16(t, at + 4),
+    }
+}
+
+// The next table of the chain: a parent's first child, a child's next, a free table's next free one.
+pub fn link(t: &[u8]) -> Index
+    requires { ⌜ length (now t) ≡ 128 ⌝ }
+    ensures { λ r. ⌜ r .0 ≡ linkOf (now (t .entry)) ⌝ }
+{
+    Index(get_u32(t, 124))
+}

@@ -1,0 +1,12 @@
+// The lower part: the volume's tables, read and examined. Knows bytes only through the crate field.
+pub mod blocks;
+pub mod date;
+pub mod entry;
+pub mod index;
+pub mod kinds;
+pub mod name;
+pub mod places;
+pub mod sector;
+pub mod sector0;
+pub mod sector1;
+pub mod zone;

@@ -1,7 +1,9 @@
 -- Index tables: their bytes in the books, and what is decoded of them. Assumes nothing.
 use mathlib.Core.Path.{_≡_, refl, sym, ap, _∙_}
 use Prim.Native.Nat.{ℕ, _+_, _-_, _*_, _≤_, _<_}
+use native.Mathlib.Decide.{ℕ-discrete}
 use native.Mathlib.Omega.{arith}
+use borrow.Author.Tests.{eq-eqb, ne-eqb}
 use mathlib.Core.List.{List}
 use lib.ListN.{length, take, drop, length-drop}
 use lib.Seq.{length-take-le}
@@ -10,7 +12,7 @@ use Rattle.tables.specs.declared.places.Places.{Places}
 use Rattle.tables.specs.declared.entry.Kind.{Kind}
 use Rattle.tables.specs.declared.entry.Entry.{Entry}
 use Rattle.tables.specs.Places.{Layout}
-use Rattle.tables.specs.Indexes.{tableAt, wordOf, parentOf, lengthOf, attributeOf, linkOf}
+use Rattle.tables.specs.Indexes.{tableAt, wordOf, parentOf, lengthOf, attributeOf, linkOf, slotsOf, baseOf, fileOf}
 use Rattle.tables.specs.Entries.{kindOf, entryOf}
 
 pub length-table : (p : Places) (b : List ℕ) (i : ℕ) → Layout p (length b) → 1 ≤ i → i ≤ p .indexes → length (tableAt p b i) ≡ 128
@@ -25,3 +27,46 @@ unfolding entryOf
 entry-is i t number parent link word len attribute kind n w p a k l h =
     let q : kind ≡ kindOf i (wordOf t) (parentOf t) (attributeOf t) = k ∙ rw (w, p, a) in
     rw (q, a, l, ← n, ← h)
+
+-- ---- the places for pointers, by what the table begins with
+
+module _ (i : ℕ) (t : List ℕ) where
+  pub slots-free : wordOf t ≡ 0 → slotsOf i t ≡ 0
+  unfolding slotsOf
+  slots-free e = rw (eq-eqb (wordOf t) 0 e)
+
+  pub slots-parent : (wordOf t ≡ 0 → ⊥) → wordOf t ≡ i → slotsOf i t ≡ 10
+  unfolding slotsOf
+  slots-parent ne e = rw (ne-eqb (wordOf t) 0 ne, eq-eqb (wordOf t) i e)
+
+  pub slots-child : (wordOf t ≡ 0 → ⊥) → (wordOf t ≡ i → ⊥) → slotsOf i t ≡ 17
+  unfolding slotsOf
+  slots-child ne nq = rw (ne-eqb (wordOf t) 0 ne, ne-eqb (wordOf t) i nq)
+
+  pub base-parent : wordOf t ≡ i → baseOf i t ≡ 64
+  unfolding baseOf
+  base-parent e = rw (eq-eqb (wordOf t) i e)
+
+  pub base-child : (wordOf t ≡ i → ⊥) → baseOf i t ≡ 22
+  unfolding baseOf
+  base-child nq = rw (ne-eqb (wordOf t) i nq)
+
+  pub file-free : wordOf t ≡ 0 → fileOf i t ≡ 0
+  unfolding fileOf
+  file-free e = rw (eq-eqb (wordOf t) 0 e)
+
+  pub file-parent : (wordOf t ≡ 0 → ⊥) → wordOf t ≡ i → fileOf i t ≡ i
+  unfolding fileOf
+  file-parent ne e = rw (ne-eqb (wordOf t) 0 ne, eq-eqb (wordOf t) i e)
+
+  pub file-child : (wordOf t ≡ 0 → ⊥) → (wordOf t ≡ i → ⊥) → fileOf i t ≡ parentOf t
+  unfolding fileOf
+  file-child ne nq = rw (ne-eqb (wordOf t) 0 ne, ne-eqb (wordOf t) i nq)
+
+  -- the pointers stand before the link
+  pub slots-in : baseOf i t + 6 * slotsOf i t ≤ 124
+  slots-in =
+      elim (ℕ-discrete (wordOf t) 0) [
+        | yes e ↦ elim (ℕ-discrete (wordOf t) i) [ yes q ↦ omega (arith, slots-free e, base-parent q) | no q ↦ omega (arith, slots-free e, base-child q) ]
+        | no ne ↦ elim (ℕ-discrete (wordOf t) i) [ yes q ↦ omega (arith, slots-parent ne q, base-parent q) | no q ↦ omega (arith, slots-child ne q, base-child q) ]
+      ]

@@ -98,7 +98,7 @@ module _ (v : View) (r6 : R6 v) (r7 : R7 v) (bits : (s : ℕ) → v .bit s < 2) 
   -- what lies under a pointer lies outside zones 1 and Z
   pub under-inside : (i j s : ℕ) → Under v i j s → (1024 ≤ s) × (s < 1024 * (v .zones - 1))
   under-inside i j s u =
-      let run = r6 i (u .low) (u .high) .used j (u .slot) (omega (arith, u .from, u .to)) in
+      let run = r6 i (omega (arith, u .high)) (u .low) .used j (u .slot) (omega (arith, u .from, u .to)) in
       (omega (arith, run .low, u .from), omega (arith, run .high, u .to))
 
   -- "No sector is under two pointers."

@@ -1,13 +1,14 @@
 -- "Format zeroes the books, writes both sectors, tables from sector 2 on without gaps, free chain 1, 2, ..., N, flag 0.
 -- Initialization and update dates are the one given."
-use Prim.Native.Nat.{ℕ, zero, suc, _+_, _-_, _*_}
+use Prim.Native.Nat.{ℕ, zero, suc, _+_, _-_, _*_, _≤_}
 use mathlib.Core.List.{List}
-use lib.ListN.{replicate}
+use lib.ListN.{length, replicate}
 use Rattle.field.specs.Numbers.{putU16, putU32}
 use Rattle.field.specs.Parts.{over}
 use Rattle.tables.specs.declared.places.Places.{Places}
+use Rattle.tables.specs.Dates.{Date}
 use Rattle.tables.specs.Zones.{putZone}
-use Rattle.tables.specs.Rules.R1.{zoneBytes, sectorBytes, ceil}
+use Rattle.tables.specs.Rules.R1.{zoneBytes, sectorBytes, ceil, Stand}
 
 -- what a volume is called
 pub record Label : Type 0 where
@@ -27,6 +28,22 @@ freshPlaces z n = record {
   sectortable = 2048 + zoneBytes z;
   indextable = 2048 + zoneBytes z + sectorBytes z;
 }
+
+-- Z and N are allowed, and the tables find room in books of len bytes
+pub record Formattable (len z n : ℕ) : Type 0 where
+  pub least : 3 ≤ z
+  pub most : z ≤ 256
+  pub some : 1 ≤ n
+  pub few : n ≤ 4096
+  pub stand : Stand (freshPlaces z n) len
+
+-- no text is longer than its field, and the date is valid
+pub record Writable (l : Label) : Type 0 where
+  pub application : length (l .application) ≤ 16
+  pub volume : length (l .volume) ≤ 32
+  pub owner : length (l .owner) ≤ 32
+  pub code : length (l .code) ≤ 32
+  pub date : Date (l .date)
 
 -- sector 0: texts, padded with the nulls that are there, and the date
 unfoldable pub putLabel : List ℕ → Label → List ℕ

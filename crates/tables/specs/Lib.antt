@@ -9,7 +9,9 @@ pub mod Dates
 pub mod Names
 pub mod Indexes
 pub mod Entries
+pub mod Findings
 pub mod Views
 pub mod Rules
 pub mod Lawful
 pub mod Format
+pub mod Books

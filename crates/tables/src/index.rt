@@ -8,7 +8,7 @@ ghost use mathlib.Core.Path.{_≡_};
 ghost use Prim.Native.Nat.{_+_, _*_, _≤_, _<_};
 ghost use lib.ListN.{length};
 ghost use Rattle.tables.specs.Places.{Layout};
-ghost use Rattle.tables.specs.Indexes.{tableAt, wordOf, parentOf, nameOf, createdOf, changedOf, lengthOf, attributeOf, linkOf, pointerAt};
+ghost use Rattle.tables.specs.Indexes.{tableAt, wordOf, parentOf, nameOf, createdOf, changedOf, lengthOf, attributeOf, linkOf, pointerAt, slotsOf, baseOf, fileOf};
 
 // A run of sectors: the first, and how many.
 pub struct Pointer {
@@ -101,4 +101,45 @@ pub fn link(t: &[u8]) -> Index
     ensures { λ r. ⌜ r .0 ≡ linkOf (now (t .entry)) ⌝ }
 {
     Index(get_u32(t, 124))
+}
+
+// How many places for pointers table i has: none if it is free, ten if it is a parent, seventeen if it is a child.
+pub fn slots(i: Index, t: &[u8]) -> usize
+    requires { ⌜ length (now t) ≡ 128 ⌝ }
+    ensures { λ r. ⌜ (r ≡ slotsOf (i .0) (now (t .entry))) × (r ≤ 17) ⌝ }
+{
+    let word = first_word(t);
+    if word == 0 {
+        return 0;
+    }
+    if word == i.0 {
+        return 10;
+    }
+    17
+}
+
+// Where the first of them begins.
+pub fn base(i: Index, t: &[u8]) -> usize
+    requires { ⌜ length (now t) ≡ 128 ⌝ }
+    ensures { λ r. ⌜ (r ≡ baseOf (i .0) (now (t .entry))) × (r ≤ 64) ⌝ }
+{
+    if first_word(t) == i.0 {
+        return 64;
+    }
+    22
+}
+
+// The file that table i is of; 0 if the table is free.
+pub fn file(i: Index, t: &[u8]) -> Index
+    requires { ⌜ length (now t) ≡ 128 ⌝ }
+    ensures { λ r. ⌜ r .0 ≡ fileOf (i .0) (now (t .entry)) ⌝ }
+{
+    let word = first_word(t);
+    if word == 0 {
+        return Index(0);
+    }
+    if word == i.0 {
+        return i;
+    }
+    parent(t)
 }

@@ -2,10 +2,12 @@
 pub mod blocks;
 pub mod date;
 pub mod entry;
+pub mod finding;
 pub mod index;
 pub mod kinds;
 pub mod name;
 pub mod places;
+pub mod rules;
 pub mod sector;
 pub mod sector0;
 pub mod sector1;

@@ -6,6 +6,7 @@ use Prim.Native.Nat.{ℕ, _+_, _≤_, _<_}
 use Rattle.tables.specs.declared.zone.ZoneEntry.{ZoneEntry}
 use Rattle.tables.specs.Kinds.{firstOf}
 use Rattle.tables.specs.Blocks.{Typed}
+use Rattle.tables.specs.Findings.{Each}
 use Rattle.tables.specs.Views.{View}
 
 -- the entry reads (t, f, h); -1 is read as 65535
@@ -28,9 +29,11 @@ pub record InUse (v : View) (z : ℕ) : Type 0 where
   pub typed : Typed (v .zone z .ztype)
   pub third : v .zone z .third ≡ 0
 
-pub record R2 (v : View) : Type 0 where
-  pub first : Reads (v .zone 1) 1 65535 (v .zones)
-  pub firstSet : ZoneBits v 1 1
-  pub last : Reads (v .zone (v .zones)) 65535 65535 1
-  pub lastSet : ZoneBits v (v .zones) 1
-  pub others : (z : ℕ) → z < v .zones → 2 ≤ z → Untyped v z ⊎ InUse v z
+-- zone z: a system zone, first or last, or one of the others
+pub record ZoneLaw (v : View) (z : ℕ) : Type 0 where
+  pub first : z ≡ 1 → Reads (v .zone z) 1 65535 (v .zones) × ZoneBits v z 1
+  pub last : z ≡ v .zones → Reads (v .zone z) 65535 65535 1 × ZoneBits v z 1
+  pub other : 2 ≤ z → z < v .zones → Untyped v z ⊎ InUse v z
+
+abbrev pub R2 : View → Type 0
+R2 v = Each (ZoneLaw v) 1 (v .zones + 1)

@@ -4,6 +4,7 @@ use Prim.Native.Nat.{ℕ, _+_, _-_, _*_, _/_, _≤_, _<_}
 use Rattle.field.specs.Sum.{sumTo}
 use Rattle.tables.specs.Kinds.{firstOf}
 use Rattle.tables.specs.Blocks.{Typed, blockOf, Whole}
+use Rattle.tables.specs.Findings.{Each}
 use Rattle.tables.specs.Views.{View}
 
 -- a zone that starts at sector `from`, with blocks of `size` sectors of which `free` are clear
@@ -11,5 +12,9 @@ pub record Blocks (bit : ℕ → ℕ) (from size free : ℕ) : Type 0 where
   pub whole : Whole bit from size
   pub number : sumTo (1024 / size) (λ k. 1 - bit (from + k * size)) ≡ free
 
+-- zone z, if it is of type 3-8
+abbrev pub BlockLaw : View → ℕ → Type 0
+BlockLaw v z = Typed (v .zone z .ztype) → Blocks (v .bit) (firstOf z) (blockOf (v .zone z .ztype)) (v .zone z .free)
+
 abbrev pub R3 : View → Type 0
-R3 v = (z : ℕ) → z < v .zones → 2 ≤ z → Typed (v .zone z .ztype) → Blocks (v .bit) (firstOf z) (blockOf (v .zone z .ztype)) (v .zone z .free)
+R3 v = Each (BlockLaw v) 2 (v .zones)

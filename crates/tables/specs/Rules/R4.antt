@@ -2,10 +2,11 @@
 -- once, nothing else."
 use mathlib.Core.Path.{_≡_}
 use mathlib.Core.Logic.{_⊎_}
-use Prim.Native.Nat.{ℕ, _<_, _≤_}
-use lib.ListN.{getD}
+use Prim.Native.Nat.{ℕ, _+_, _<_}
 use Rattle.field.specs.Parts.{AllBytes}
-use Rattle.tables.specs.Views.{View, Free, Parent, Child, walk, next}
+use Rattle.tables.specs.Indexes.{wordOf, minus}
+use Rattle.tables.specs.Findings.{Each}
+use Rattle.tables.specs.Views.{View, Free, walk, next}
 
 -- the chain from sector 1's first free index has m members, all free, and every free index is among them;
 -- that it meets each only once follows, since it ends (ChainLaws.free-once)
@@ -14,8 +15,12 @@ pub record FreeChain (v : View) (m : ℕ) : Type 0 where
   pub each : (k : ℕ) → k < m → Free v (walk (next v) (v .head) k)
   pub every : (i : ℕ) → Free v i → (k : ℕ) × (k < m) × (walk (next v) (v .head) k ≡ i)
 
+-- index i's own bytes: what it begins with, and the zeros of a free one
+pub record Own (v : View) (i : ℕ) : Type 0 where
+  pub word : (wordOf (v .table i) ≡ 0) ⊎ ((wordOf (v .table i) ≡ i) ⊎ (wordOf (v .table i) ≡ minus i))
+  pub blank : wordOf (v .table i) ≡ 0 → AllBytes (v .table i) 4 120 0
+
 pub record R4 (v : View) : Type 0 where
-  pub kind : (i : ℕ) → 1 ≤ i → i ≤ v .indexes → Free v i ⊎ (Parent v i ⊎ Child v i)
-  pub blank : (i : ℕ) → Free v i → AllBytes (v .table i) 4 120 0
+  pub own : Each (Own v) 1 (v .indexes + 1)
   pub long : ℕ
   pub chain : FreeChain v long

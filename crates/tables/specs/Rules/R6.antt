@@ -7,6 +7,7 @@ use Rattle.field.specs.Parts.{AllBytes}
 use Rattle.tables.specs.Kinds.{zoneOf, firstOf}
 use Rattle.tables.specs.Blocks.{Typed, blockOf, Whole}
 use Rattle.tables.specs.Indexes.{wordOf, slotsOf, startOf, countOf, Used}
+use Rattle.tables.specs.Findings.{Each}
 use Rattle.tables.specs.Views.{View, cov}
 
 -- the c sectors from a on: a lawful run
@@ -26,4 +27,4 @@ pub record Shape (v : View) (i : ℕ) (t : List ℕ) : Type 0 where
   pub header : wordOf t ≡ i → AllBytes t 58 6 0
 
 abbrev pub R6 : View → Type 0
-R6 v = (i : ℕ) → 1 ≤ i → i ≤ v .indexes → Shape v i (v .table i)
+R6 v = Each (λ i. Shape v i (v .table i)) 1 (v .indexes + 1)

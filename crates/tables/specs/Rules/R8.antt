@@ -7,8 +7,9 @@ use lib.Dec.{eqb}
 use Rattle.tables.specs.Kinds.{zoneOf}
 use Rattle.tables.specs.Dates.{Date}
 use Rattle.tables.specs.Names.{Name}
-use Rattle.tables.specs.Indexes.{nameOf, createdOf, changedOf, lengthOf, attributeOf, startOf, sectorsOf, fileOf}
-use Rattle.tables.specs.Views.{View, Parent, onlyIf, tally, Under}
+use Rattle.tables.specs.Findings.{Each}
+use Rattle.tables.specs.Indexes.{wordOf, nameOf, createdOf, changedOf, lengthOf, attributeOf, startOf, sectorsOf, fileOf}
+use Rattle.tables.specs.Views.{View, onlyIf, tally, Under}
 
 -- the file's sectors: those under the pointers of its tables
 unfoldable pub fileSectors : View → ℕ → ℕ
@@ -44,5 +45,9 @@ pub record File (v : View) (p : ℕ) (t : List ℕ) : Type 0 where
   pub created : Date (createdOf t)
   pub changed : Date (changedOf t)
 
+-- index p, if it is a parent
+abbrev pub FileLaw : View → ℕ → Type 0
+FileLaw v p = wordOf (v .table p) ≡ p → File v p (v .table p)
+
 abbrev pub R8 : View → Type 0
-R8 v = (p : ℕ) → Parent v p → File v p (v .table p)
+R8 v = Each (FileLaw v) 1 (v .indexes + 1)

@@ -1,0 +1,19 @@
+-- What a rule's examination answers, where the rule speaks of each place separately: it holds, or the lowest place where it fails.
+use Prim.Native.Nat.{ℕ, _≤_, _<_}
+use Rattle.tables.specs.declared.finding.Finding.{Finding}
+use Rattle.tables.specs.declared.finding.Finding.the-variants.{Holds, Fails}
+
+-- P holds at each place from `from` on, below n
+abbrev pub Each : (ℕ → Type 0) → ℕ → ℕ → Type 0
+Each P from n = (k : ℕ) → k < n → from ≤ k → P k
+
+-- k is the lowest of these places where P fails
+pub record Lowest (P : ℕ → Type 0) (from n k : ℕ) : Type 0 where
+  pub low : from ≤ k
+  pub high : k < n
+  pub fails : P k → ⊥
+  pub below : Each P from k
+
+abbrev pub Finds : (ℕ → Type 0) → ℕ → ℕ → Finding → Type 0
+Finds P from n Holds = Each P from n
+Finds P from n (Fails k) = Lowest P from n k

@@ -1,12 +1,18 @@
 -- What numbers 1 to 4 ask of the books, before any request.
 use mathlib.Core.Path.{_≡_}
 use Prim.Native.Nat.{ℕ, _%_, _≤_}
-use mathlib.Core.List.{List}
+use mathlib.Core.Logic.{_≢_}
+use mathlib.Core.List.{List, [], _∷_}
 use lib.ListN.{length}
 use Rattle.tables.specs.Sector0.{markOf, versionOf, zonesOf, sectorsPerZoneOf, bytesPerSectorOf, indexSizeOf}
 use Rattle.tables.specs.Sector1.{indexesOf}
-use Rattle.tables.specs.Places.{placesOf}
+use Rattle.tables.specs.declared.places.Places.{Places}
+use Rattle.tables.specs.declared.check.Checked.{Checked}
+use Rattle.tables.specs.declared.check.Checked.the-variants.{Fine, Refused}
+use Rattle.tables.specs.Gates.{Test, asks, Gate}
+use Rattle.tables.specs.Places.{placesOf, Layout}
 use Rattle.tables.specs.Rules.R1.{Stand}
+use Rattle.tables.specs.Lawful.{Lawful}
 
 -- 1 "books not S × 1,024 bytes, S allowed", 5 to 1,024
 pub record Sized (b : List ℕ) : Type 0 where
@@ -20,7 +26,7 @@ pub record Marked (b : List ℕ) : Type 0 where
   pub version : versionOf b ≡ 0x30312e30
 
 -- 3 "Z, N, 1024, 1024, 128 not as above, or R1's table places fail"
-pub record Placed (b : List ℕ) : Type 0 where
+pub record Limits (b : List ℕ) : Type 0 where
   pub least : 3 ≤ zonesOf b
   pub most : zonesOf b ≤ 256
   pub some : 1 ≤ indexesOf b
@@ -28,4 +34,25 @@ pub record Placed (b : List ℕ) : Type 0 where
   pub zone : sectorsPerZoneOf b ≡ 1024
   pub sector : bytesPerSectorOf b ≡ 1024
   pub index : indexSizeOf b ≡ 128
+
+pub record Placed (b : List ℕ) : Type 0 where
+  pub limits : Limits b
   pub stand : Stand (placesOf b) (length b)
+
+-- numbers 1 to 4 in the paper's order; 4 "another rule broken"
+abbrev pub bookTests : List ℕ → List Test
+bookTests b = asks 1 (Sized b) ∷ asks 2 (Marked b) ∷ asks 3 (Placed b) ∷ asks 4 (Lawful (placesOf b) b) ∷ []
+
+-- books that none of them refuses, with their places
+pub record Good (b : List ℕ) (p : Places) : Type 0 where
+  pub places : p ≡ placesOf b
+  pub sized : Sized b
+  pub marked : Marked b
+  pub placed : Placed b
+  pub layout : Layout p (length b)
+  pub lawful : Lawful p b
+
+-- what an examination of the books answers: their places, or the first number that applies
+abbrev pub Examined : List ℕ → Checked → Type 0
+Examined b (Fine p) = Good b p
+Examined b (Refused n) = Gate (bookTests b) n × (n ≢ 0)

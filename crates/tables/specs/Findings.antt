@@ -1,4 +1,5 @@
 -- What a rule's examination answers, where the rule speaks of each place separately: it holds, or the lowest place where it fails.
+use mathlib.Core.Bool.{Bool, true, false}
 use Prim.Native.Nat.{ℕ, _≤_, _<_}
 use Rattle.tables.specs.declared.finding.Finding.{Finding}
 use Rattle.tables.specs.declared.finding.Finding.the-variants.{Holds, Fails}
@@ -17,3 +18,8 @@ pub record Lowest (P : ℕ → Type 0) (from n k : ℕ) : Type 0 where
 abbrev pub Finds : (ℕ → Type 0) → ℕ → ℕ → Finding → Type 0
 Finds P from n Holds = Each P from n
 Finds P from n (Fails k) = Lowest P from n k
+
+-- the rule holds at every place
+abbrev pub holdsAt : Finding → Bool
+holdsAt Holds = true
+holdsAt (Fails k) = false

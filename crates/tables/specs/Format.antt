@@ -46,12 +46,24 @@ pub record Writable (l : Label) : Type 0 where
   pub date : Date (l .date)
 
 -- sector 0: texts, padded with the nulls that are there, and the date
-unfoldable pub putLabel : List ℕ → Label → List ℕ
-putLabel b l = over (over (over (putU32 (over (over b 8 (l .application)) 24 (l .volume)) 56 (l .id)) 60 (l .owner)) 92 (l .code)) 124 (l .date)
+unfoldable pub putNames : List ℕ → List ℕ → List ℕ → ℕ → List ℕ
+putNames b application volume id = putU32 (over (over b 8 application) 24 volume) 56 id
 
--- sector 0: mark "IS&C", version "01.0", sizes
+unfoldable pub putOwner : List ℕ → List ℕ → List ℕ → List ℕ → List ℕ
+putOwner b owner code date = over (over (over b 60 owner) 92 code) 124 date
+
+unfoldable pub putLabel : List ℕ → Label → List ℕ
+unfolding putNames putOwner
+putLabel b l = putOwner (putNames b (l .application) (l .volume) (l .id)) (l .owner) (l .code) (l .date)
+
+-- sector 0: mark "IS&C", version "01.0"
+unfoldable pub putMark : List ℕ → List ℕ
+putMark b = putU32 (putU32 b 0 0x49532643) 4 0x30312e30
+
+-- sector 0: sizes
 unfoldable pub putSizes : List ℕ → ℕ → List ℕ
-putSizes b z = putU16 (putU16 (putU16 (putU32 (putU32 (putU32 b 0 0x49532643) 4 0x30312e30) 130 z) 134 1024) 136 1024) 150 128
+unfolding putMark
+putSizes b z = putU16 (putU16 (putU16 (putU32 (putMark b) 130 z) 134 1024) 136 1024) 150 128
 
 -- sector 0: the start sectors
 unfoldable pub putStarts : List ℕ → ℕ → List ℕ

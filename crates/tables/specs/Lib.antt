@@ -11,7 +11,15 @@ pub mod Indexes
 pub mod Entries
 pub mod Findings
 pub mod Views
+pub mod Open
 pub mod Rules
 pub mod Lawful
 pub mod Format
+pub mod Gates
 pub mod Books
+pub mod ZoneParts
+pub mod Slots
+pub mod Met
+pub mod Counted
+pub mod Surveys
+pub mod Marks

@@ -26,5 +26,8 @@ pub record Shape (v : View) (i : ℕ) (t : List ℕ) : Type 0 where
   pub one : wordOf t ≡ i → Used i t 0
   pub header : wordOf t ≡ i → AllBytes t 58 6 0
 
+abbrev pub PointerLaw : View → ℕ → Type 0
+PointerLaw v i = Shape v i (v .table i)
+
 abbrev pub R6 : View → Type 0
-R6 v = Each (λ i. Shape v i (v .table i)) 1 (v .indexes + 1)
+R6 v = Each (PointerLaw v) 1 (v .indexes + 1)

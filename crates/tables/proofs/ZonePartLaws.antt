@@ -1,0 +1,168 @@
+-- Runs by zones: a run's part in a zone is whole blocks exactly where its edges are edges of blocks, and a run is lawful exactly where its
+-- part in each zone that it meets is. Assumes nothing.
+use mathlib.Core.Path.{_≡_, sym, ap, _∙_}
+use mathlib.Core.Logic.{_⊎_, inl, inr}
+use mathlib.Core.Bool.{Bool, true, false, not}
+use Prim.Native.Nat.{ℕ, _+_, _-_, _*_, _/_, _%_, _≤_, _<_}
+use native.Mathlib.Nat.{mul-le-mul-right, div-add-mod', mod-lt}
+use native.Mathlib.Decide.{decLt, ℕ-discrete}
+use native.Mathlib.Omega.{arith}
+use lib.Dec.{eqb}
+use Rattle.field.specs.Says.{Says}
+use Rattle.field.proofs.Tests.{refused, says-map, says-eq}
+use Rattle.tables.specs.declared.zone.ZoneEntry.{ZoneEntry}
+use Rattle.tables.specs.Kinds.{zoneOf, firstOf}
+use Rattle.tables.specs.Blocks.{Typed, blockOf, Block, Whole}
+use Rattle.tables.specs.Findings.{Each}
+use Rattle.tables.specs.Views.{View, cov}
+use Rattle.tables.specs.Rules.R6.{Run}
+use Rattle.tables.specs.ZoneParts.{Inside, Meets, Cut, Part, Parts}
+use Rattle.tables.proofs.BlockLaws.{block-of, block-end, block-in}
+use Rattle.tables.proofs.FindingLaws.{each-more}
+use Rattle.tables.proofs.PointerLaws.{cov-in, cov-before, cov-after}
+
+-- ---- edges
+
+-- a block that begins before an edge of blocks ends before it
+edge-side : (e size k j : ℕ) → e % size ≡ 0 → j < size → k * size < e → k * size + j < e
+edge-side e size k j whole l h =
+    elim (decLt k (e / size)) [
+      | yes lt ↦ omega (arith, block-end k (e / size) size lt, div-add-mod' e size)
+      | no ge ↦ absurd (omega (arith, mul-le-mul-right {m = e / size} {n = k} size (omega arith), div-add-mod' e size))
+    ]
+
+-- the block that holds the n-th sector of a zone is one of the zone's
+block-here : (n size : ℕ) → Block size → n < 1024 → n / size < 1024 / size
+block-here n size b l =
+    elim (decLt (n / size) (1024 / size)) [
+      | yes lt ↦ lt
+      | no ge ↦ absurd (omega (arith, mul-le-mul-right {m = 1024 / size} {n = n / size} size (omega arith), div-add-mod' n size, b .whole))
+    ]
+
+-- a zone ends at an edge
+zone-edge : (size : ℕ) → Block size → 1024 % size ≡ 0
+zone-edge size b = omega (arith, div-add-mod' 1024 size, b .whole)
+
+module _ (a c from size : ℕ) (b : Block size) (m : Meets a c from) where
+  -- where a block does not end behind the run without beginning behind it, and the run begins at an edge, its part is whole blocks
+  whole-by : (a - from) % size ≡ 0 → ((k : ℕ) → k < 1024 / size → (j : ℕ) → j < size → k * size < a + c - from → k * size + j < a + c - from) → Whole (cov a c) from size
+  whole-by e tail k l j lj =
+      elim (decLt (k * size) (a - from)) [
+        | yes h ↦ cov-before a c _ (omega (arith, edge-side (a - from) size k j e lj h)) ∙ sym (cov-before a c _ (omega arith))
+        | no h ↦ elim (decLt (k * size) (a + c - from)) [
+          | yes g ↦ cov-in a c _ (omega arith) (omega (arith, tail k l j lj g)) ∙ sym (cov-in a c _ (omega arith) (omega arith))
+          | no g ↦ cov-after a c _ (omega (arith, m .high)) ∙ sym (cov-after a c _ (omega (arith, m .high)))
+        ]
+      ]
+
+  -- a part of whole blocks begins at an edge, or with the zone
+  head-edge : Whole (cov a c) from size → (a - from) % size ≡ 0
+  head-edge w =
+      elim (ℕ-discrete ((a - from) % size) 0) [
+        | yes e ↦ e
+        | no ne ↦ (let q = div-add-mod' (a - from) size in
+            absurd (omega (
+              arith,
+              w ((a - from) / size) (block-here (a - from) size b (omega (arith, m .low))) ((a - from) % size) (mod-lt (a - from) (b .some)),
+              cov-in a c (from + (a - from) / size * size + (a - from) % size) (omega arith) (omega (arith, m .high)),
+              cov-before a c (from + (a - from) / size * size) (omega arith),
+            )))
+      ]
+
+  -- and ends at an edge, or with the zone
+  tail-edge : Whole (cov a c) from size → a + c - from ≤ 1024 → (a + c - from) % size ≡ 0
+  tail-edge w few =
+      elim (ℕ-discrete ((a + c - from) % size) 0) [
+        | yes e ↦ e
+        | no ne ↦ (let q = div-add-mod' (a + c - from) size in
+            let l : a + c - from < 1024 = elim (ℕ-discrete (a + c - from) 1024) [ yes z ↦ absurd (ne (rw z (zone-edge size b))) | no z ↦ omega arith ] in
+            absurd (omega (
+              arith,
+              w ((a + c - from) / size) (block-here (a + c - from) size b l) ((a + c - from) % size) (mod-lt (a + c - from) (b .some)),
+              cov-after a c (from + (a + c - from) / size * size + (a + c - from) % size) (omega (arith, m .high)),
+              cov-in a c (from + (a + c - from) / size * size) (inner q) (omega (arith, m .high)),
+            )))
+      ]
+    where
+      inner : (a + c - from) / size * size + (a + c - from) % size ≡ a + c - from → a ≤ from + (a + c - from) / size * size
+      inner q =
+          elim (decLt ((a + c - from) / size * size) (a - from)) [
+            | yes h ↦ absurd (omega (arith, edge-side (a - from) size ((a + c - from) / size) ((a + c - from) % size) (head-edge w) (mod-lt (a + c - from) (b .some)) h))
+            | no h ↦ omega arith
+          ]
+
+  -- what the code finds: the run begins at no edge; else where it ends decides
+  pub head-cut : (x : ℕ) → x ≡ a - from → (x % size ≡ 0 → ⊥) → Whole (cov a c) from size → ⊥
+  head-cut x q ne w = ne (rw q (head-edge w))
+
+  pub tail-says : (x y : ℕ) → x ≡ a - from → x % size ≡ 0 → Cut (a + c - from) y → Says (eqb (y % size) 0) (Whole (cov a c) from size)
+  tail-says x y q e (inl (few, is)) =
+      says-eq (y % size) 0 (λ t. whole-by (rw q at e) (λ k l j lj lt. edge-side (a + c - from) size k j (rw is at t) lj lt)) (λ w. rw is (tail-edge w few))
+  tail-says x y q e (inr (far, is)) =
+      says-eq (y % size) 0 (λ t. whole-by (rw q at e) (λ k l j lj lt. omega (arith, block-in k size b l))) (λ w. rw is (zone-edge size b))
+
+-- ---- a zone's entry
+
+module _ (v : View) (a c z : ℕ) (e : ZoneEntry) (at : e ≡ v .zone z) where
+  pub part-low : e .ztype < 3 → Part v a c z → ⊥
+  part-low l part = (let q : e .ztype ≡ v .zone z .ztype = ap (λ (x : ZoneEntry). x .ztype) at in omega (arith, part .typed .low))
+
+  pub part-high : 8 < e .ztype → Part v a c z → ⊥
+  part-high l part = (let q : e .ztype ≡ v .zone z .ztype = ap (λ (x : ZoneEntry). x .ztype) at in omega (arith, part .typed .high))
+
+  pub part-says : (r : Bool) (from size : ℕ) → 3 ≤ e .ztype → e .ztype ≤ 8 → from ≡ firstOf z → size ≡ blockOf (e .ztype) → Says r (Whole (cov a c) from size) → Says r (Part v a c z)
+  part-says r from size low high f s =
+      let q : e .ztype ≡ v .zone z .ztype = ap (λ (x : ZoneEntry). x .ztype) at in
+      let g : size ≡ blockOf (v .zone z .ztype) = s ∙ ap blockOf q in
+      says-map r (λ w. record { typed = record { low = omega arith; high = omega arith }; whole = rw (← g, ← f) w }) (λ part. rw (g, f) (part .whole))
+
+-- ---- zones
+
+-- where a run does not meet a zone it has one value on it
+whole-none : (a c from size : ℕ) → Block size → (a + c ≤ from) ⊎ (from + 1024 ≤ a) → Whole (cov a c) from size
+whole-none a c from size b (inl h) k l j lj = cov-after a c _ (omega arith) ∙ sym (cov-after a c _ (omega arith))
+whole-none a c from size b (inr h) k l j lj = cov-before a c _ (omega (arith, block-in k size b l)) ∙ sym (cov-before a c _ (omega (arith, block-in k size b l)))
+
+-- zone by zone
+module _ (v : View) (a c : ℕ) where
+  pub parts-none : (z : ℕ) → z ≡ zoneOf a → Each (Part v a c) (zoneOf a) z
+  parts-none z e k l h = absurd (omega arith)
+
+  pub parts-more : (z : ℕ) (r : Bool) → Each (Part v a c) (zoneOf a) z → Says r (Part v a c z) → not r ≡ false → Each (Part v a c) (zoneOf a) (z + 1)
+  parts-more = each-more (Part v a c) (zoneOf a)
+
+  pub parts-refused : (z last : ℕ) (r : Bool) → last ≡ zoneOf (a + c - 1) → zoneOf a ≤ z → z < last + 1 → Says r (Part v a c z) → not r ≡ true → Parts v a c → ⊥
+  parts-refused z last r e lo hi s n parts = refused r s n (parts z (omega arith) lo)
+
+  pub parts-all : (z last : ℕ) → last ≡ zoneOf (a + c - 1) → last + 1 ≤ z → Each (Part v a c) (zoneOf a) z → Parts v a c
+  parts-all z last e h each k l lo = each k (omega arith) lo
+
+module _ (v : View) (a c : ℕ) (i : Inside (v .zones) a c) (few : c ≤ 32767) where
+  parts-run : Parts v a c → Run v a c
+  parts-run parts = record {
+    some = i .some;
+    few = few;
+    low = i .low;
+    high = i .high;
+    typed = λ s l h. parts (zoneOf s) (omega arith) (omega arith) .typed;
+    whole = λ z l h t. elim (decLt z (zoneOf a)) [
+      | yes lo ↦ whole-none a c (firstOf z) (blockOf (v .zone z .ztype)) (block-of _ t) (inr (omega arith))
+      | no lo ↦ elim (decLt z (zoneOf (a + c - 1) + 1)) [
+        | yes hi ↦ parts z hi (omega arith) .whole
+        | no hi ↦ whole-none a c (firstOf z) (blockOf (v .zone z .ztype)) (block-of _ t) (inl (omega (arith, i .some)))
+      ]
+    ];
+  }
+
+  run-parts : Run v a c → Parts v a c
+  run-parts r z l h =
+      let t = met (ℕ-discrete z (zoneOf a)) in
+      record { typed = t; whole = r .whole z (omega (arith, i .some, i .high)) (omega (arith, i .low)) t }
+    where
+      met : Dec (z ≡ zoneOf a) → Typed (v .zone z .ztype)
+      met (yes e) = rw e (r .typed a (omega (arith, i .some)) (omega arith))
+      met (no ne) = (let e : zoneOf (firstOf z) ≡ z = omega arith in rw e at (r .typed (firstOf z) (omega (arith, i .some)) (omega arith)))
+
+  -- the zones that a run meets decide
+  pub run-says : (r : Bool) → Says r (Parts v a c) → Says r (Run v a c)
+  run-says r = says-map r parts-run run-parts

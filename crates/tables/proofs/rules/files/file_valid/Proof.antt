@@ -1,0 +1,17 @@
+use Rattle.tables.proofs.SurveyLaws.{file-other, file-says}
+use borrow.Author.Needs.{needs}
+use Rattle.tables.proofs.rules.files.file_valid.Statement.{statement}
+use Rattle.tables.proofs.rules.files.file_valid.Tie as tie
+
+pub file-valid-spec : {M : Type 1} → statement M
+file-valid-spec =
+    tie.close
+    (tie.spec
+    (λ c κs. search needs)
+    (λ c κs. search needs)
+    (λ c. search file-other)
+    (λ c. search needs)
+    (λ c. search needs)
+    (λ c. search needs)
+    (λ c κs. search needs)
+    (λ c. search file-says))

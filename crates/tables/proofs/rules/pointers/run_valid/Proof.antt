@@ -1,0 +1,19 @@
+use Rattle.tables.proofs.ZonePartLaws.{run-says}
+use borrow.Author.Needs.{needs}
+use Rattle.tables.proofs.rules.pointers.run_valid.Statement.{statement}
+use Rattle.tables.proofs.rules.pointers.run_valid.Tie as tie
+
+pub run-valid-spec : {M : Type 1} → statement M
+run-valid-spec =
+    tie.close
+    (tie.spec
+    (λ c. search needs)
+    (λ c. search needs)
+    (λ c. search needs)
+    (λ c. search needs)
+    (λ c. search needs)
+    (λ c. search needs)
+    (λ c. search needs)
+    (λ c. search needs)
+    (λ c κs. search needs)
+    (λ c. search (run-says, needs)))

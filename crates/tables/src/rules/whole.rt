@@ -1,0 +1,81 @@
+// Are the blocks of a zone whole: each of one bit throughout? Blocks of 16 sectors or more are tested a byte at a time, and blocks of
+// four sectors two at a time.
+use crate::rules::bytes::bits_are;
+use field::bits::get_bit;
+use field::numbers::wide;
+ghost use mathlib.Core.Path.{_≡_};
+ghost use Prim.Native.Nat.{_+_, _%_};
+ghost use lib.ListN.{length};
+ghost use Rattle.field.specs.Says.{Says};
+ghost use Rattle.field.specs.Bits.{bitAt};
+ghost use Rattle.field.specs.Runs.{Room, AllBits};
+ghost use Rattle.tables.specs.Blocks.{Block, Whole};
+
+// Are the bits of a block all as its first?
+fn block_whole(s: &[u8], base: usize, from: usize, size: usize) -> bool
+    requires { ⌜ Room (length (now s)) base from size ⌝ }
+    requires { ⌜ Block size ⌝ }
+    ensures { λ r. ⌜ Says r (AllBits (now (s .entry)) base from size (bitAt (now (s .entry)) base from)) ⌝ }
+{
+    let v = get_bit(s, base, from);
+    bits_are(s, base, from, size, v)
+}
+
+// A block after the other.
+fn each_whole(s: &[u8], base: usize, from: usize, size: usize) -> bool
+    requires { ⌜ Room (length (now s)) base from 1024 ⌝ }
+    requires { ⌜ Block size ⌝ }
+    ensures { λ r. ⌜ Says r (Whole (bitAt (now (s .entry)) base) from size) ⌝ }
+{
+    let count = 1024 / size;
+    let mut i: usize = 0;
+    while i < count {
+        if !block_whole(s, base, from + i * size, size) {
+            return false;
+        }
+        i += 1;
+    }
+    true
+}
+
+// Are the first four bits of a byte the same, and the last four: is it 0, 15, 240 or 255?
+fn two_whole(s: &[u8], base: usize, at: usize) -> bool
+    requires { ⌜ Room (length (now s)) base at 8 ⌝ }
+    requires { ⌜ at % 8 ≡ 0 ⌝ }
+    ensures { λ r. ⌜ Says r (AllBits (now (s .entry)) base at 4 (bitAt (now (s .entry)) base at) × AllBits (now (s .entry)) base (at + 4) 4 (bitAt (now (s .entry)) base (at + 4))) ⌝ }
+{
+    let x = wide(s[base + at / 8]);
+    240 * (x / 128) + 15 * (x / 8 % 2) == x
+}
+
+// Blocks of four sectors, two of them a byte.
+fn fours_whole(s: &[u8], base: usize, from: usize) -> bool
+    requires { ⌜ Room (length (now s)) base from 1024 ⌝ }
+    requires { ⌜ from % 8 ≡ 0 ⌝ }
+    ensures { λ r. ⌜ Says r (Whole (bitAt (now (s .entry)) base) from 4) ⌝ }
+{
+    let mut i: usize = 0;
+    while i < 128 {
+        if !two_whole(s, base, from + 8 * i) {
+            return false;
+        }
+        i += 1;
+    }
+    true
+}
+
+// Blocks of `size` sectors, of the zone whose first sector is `from`.
+pub fn blocks_whole(s: &[u8], base: usize, from: usize, size: usize) -> bool
+    requires { ⌜ Room (length (now s)) base from 1024 ⌝ }
+    requires { ⌜ from % 8 ≡ 0 ⌝ }
+    requires { ⌜ Block size ⌝ }
+    ensures { λ r. ⌜ Says r (Whole (bitAt (now (s .entry)) base) from size) ⌝ }
+{
+    if size == 1 {
+        return true;
+    }
+    if size == 4 {
+        return fours_whole(s, base, from);
+    }
+    each_whole(s, base, from, size)
+}

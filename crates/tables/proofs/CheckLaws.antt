@@ -132,22 +132,27 @@ module _ (b : List ℕ) (r : Bool) where
   stand-now p s e = passed r s e
 
   pub refused-1 : Says r (Sized b) → not r ≡ true → Examined b (Refused 1)
+  unfolding Gate
   refused-1 s e = (inr (refused r s e, refl, omega arith), omega arith)
 
   pub refused-2 : Sized b → Says r (Marked b) → not r ≡ true → Examined b (Refused 2)
+  unfolding Gate
   refused-2 h₁ s e = (inl (h₁, inr (refused r s e, refl, omega arith)), omega arith)
 
   pub refused-3 : Sized b → Marked b → Says r (Limits b) → not r ≡ true → Examined b (Refused 3)
+  unfolding Gate
   refused-3 h₁ h₂ s e = (inl (h₁, inl (h₂, inr ((λ h. refused r s e (h .limits)), refl, omega arith))), omega arith)
 
   module _ (p : Places) where
     pub unplaced-3 : Sized b → Marked b → p ≡ placesOf b → Says r (Stand p (length b)) → not r ≡ true → Examined b (Refused 3)
+    unfolding Gate
     unplaced-3 h₁ h₂ q s e = (inl (h₁, inl (h₂, inr ((λ h. refused r s e (rw q (h .stand))), refl, omega arith))), omega arith)
 
     placed : Limits b → p ≡ placesOf b → Stand p (length b) → Placed b
     placed l q st = record { limits = l; stand = rw (← q) st }
 
     pub refused-4 : Sized b → Marked b → Limits b → p ≡ placesOf b → Stand p (length b) → Says r (Lawful p b) → not r ≡ true → Examined b (Refused 4)
+    unfolding Gate
     refused-4 h₁ h₂ l q st s e = (inl (h₁, inl (h₂, inl (placed l q st, inr ((λ h. refused r s e (rw q h)), refl, omega arith)))), omega arith)
 
     pub is-fine : Sized b → Marked b → Limits b → p ≡ placesOf b → Stand p (length b) → Layout p (length b) → Says r (Lawful p b) → not r ≡ false → Good b p

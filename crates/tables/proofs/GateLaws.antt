@@ -9,6 +9,7 @@ use Rattle.tables.specs.Books.{Good, bookTests}
 
 -- whatever the conditions are, one number is answered
 pub gate-one : (ts : List Test) (r s : ℕ) → Gate ts r → Gate ts s → r ≡ s
+unfolding Gate
 gate-one [] r s h k = h ∙ sym k
 gate-one (t ∷ ts) r s (inl h) (inl k) = gate-one ts r s (h .1) (k .1)
 gate-one (t ∷ ts) r s (inl h) (inr k) = absurd (k .0 (h .0))
@@ -17,27 +18,33 @@ gate-one (t ∷ ts) r s (inr h) (inr k) = h .1 ∙ sym (k .1)
 
 -- a test that fails, one that passes, and none left
 pub gate-fails : (n : ℕ) (P : Type 0) (ts : List Test) → n ≢ 0 → (P → ⊥) → Gate (asks n P ∷ ts) n
+unfolding Gate
 gate-fails n P ts some h = inr (h, refl, some)
 
 pub gate-passes : (n : ℕ) (P : Type 0) (ts : List Test) (r : ℕ) → P → Gate ts r → Gate (asks n P ∷ ts) r
+unfolding Gate
 gate-passes n P ts r h g = inl (h, g)
 
 pub gate-end : Gate [] 0
+unfolding Gate
 gate-end = refl
 
 -- tests behind others: where a number applied, and where none did
 pub gate-stop : (ts us : List Test) (r : ℕ) → Gate ts r → r ≢ 0 → Gate (ts ++ us) r
+unfolding Gate
 gate-stop [] us r h some = absurd (some h)
 gate-stop (t ∷ ts) us r (inl h) some = inl (h .0, gate-stop ts us r (h .1) some)
 gate-stop (t ∷ ts) us r (inr h) some = inr h
 
 pub gate-skip : (ts us : List Test) (r s : ℕ) → Gate ts r → r ≡ 0 → Gate us s → Gate (ts ++ us) s
+unfolding Gate
 gate-skip [] us r s h e g = g
 gate-skip (t ∷ ts) us r s (inl h) e g = inl (h .0, gate-skip ts us r s (h .1) e g)
 gate-skip (t ∷ ts) us r s (inr h) e g = absurd (h .2 e)
 
 -- and the tests behind others are passed too where nothing applied at all
 pub gate-rest : (ts us : List Test) → Gate (ts ++ us) 0 → Gate us 0
+unfolding Gate
 gate-rest [] us g = g
 gate-rest (t ∷ ts) us (inl h) = gate-rest ts us (h .1)
 gate-rest (t ∷ ts) us (inr h) = absurd (h .2 refl)
@@ -45,6 +52,7 @@ gate-rest (t ∷ ts) us (inr h) = absurd (h .2 refl)
 -- ---- the books' own tests
 
 pub good-zero : (b : List ℕ) (p : Places) → Good b p → Gate (bookTests b) 0
+unfolding Gate
 good-zero b p g = inl (g .sized, inl (g .marked, inl (g .placed, inl (rw (← g .places) (g .lawful), refl))))
 
 pub good-gate : (b : List ℕ) (p : Places) (us : List Test) (s : ℕ) → Good b p → Gate us s → Gate (bookTests b ++ us) s

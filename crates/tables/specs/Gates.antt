@@ -13,6 +13,6 @@ abbrev pub asks : ℕ → Type 0 → Test
 asks n P = record { number = n; passes = P }
 
 -- r is the first number whose condition fails, 0 if none does; no number is 0
-abbrev pub Gate : List Test → ℕ → Type 0
+unfoldable pub Gate : List Test → ℕ → Type 0
 Gate [] r = r ≡ 0
 Gate (t ∷ ts) r = (t .passes × Gate ts r) ⊎ ((t .passes → ⊥) × (r ≡ t .number) × (r ≢ 0))

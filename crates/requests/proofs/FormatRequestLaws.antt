@@ -1,0 +1,151 @@
+-- Format: what its tests know at each way out, that its promise has one outcome, and that fresh books are good. Assumes nothing.
+use mathlib.Core.Path.{_≡_, refl, sym, ap₂, _∙_}
+use mathlib.Core.Logic.{inl, inr, _≢_}
+use mathlib.Core.Bool.{Bool, not, true, false}
+use mathlib.Core.List.{List}
+use Prim.Native.Nat.{ℕ, _≤_}
+use native.Mathlib.Omega.{arith}
+use lib.ListN.{length}
+use Rattle.field.specs.Says.{Says}
+use Rattle.field.proofs.Tests.{passed, refused, says-map}
+use Rattle.tables.specs.declared.places.Places.{Places}
+use Rattle.tables.specs.Gates.{Gate}
+use Rattle.tables.specs.Dates.{Date}
+use Rattle.tables.specs.Books.{Sized, Good}
+use Rattle.tables.specs.Rules.R1.{Stand}
+use Rattle.tables.specs.Format.{Label, Formattable, Writable, freshPlaces, formatted}
+use Rattle.tables.proofs.GateLaws.{gate-one}
+use Rattle.tables.proofs.PlaceLaws.{stand-layout}
+use Rattle.tables.proofs.FormatLaws.{format-length, format-marked, format-places, format-placed, format-lawful}
+use Rattle.requests.specs.declared.amount.Amount.{Amount}
+use Rattle.requests.specs.declared.amount.Amount.the-variants.{Below, Is}
+use Rattle.requests.specs.Format.{Fits, Texts, formatTests, sizeOf, Formatted}
+use Rattle.requests.proofs.RequestLaws.{after-refused, after-one}
+
+-- ---- Z and N
+
+pub stands-asks : (p : Places) (z n len : ℕ) → p ≡ freshPlaces z n → z ≤ 256 → n ≤ 4096 → len ≤ 1048576
+    → (p .zones ≤ 256) × (p .indexes ≤ 4096) × (len ≤ 1048576)
+stands-asks p z n len e h k l = rw e (h, k, l)
+
+pub formattable-says : (r : Bool) (p : Places) (len z n : ℕ) → p ≡ freshPlaces z n → 3 ≤ z → z ≤ 256 → 1 ≤ n → n ≤ 4096
+    → Says r (Stand p len) → Says r (Formattable len z n)
+formattable-says r p len z n e least most some few s =
+    says-map r (λ h. record { least = least; most = most; some = some; few = few; stand = rw (← e) h }) (λ f. rw e (f .stand)) s
+
+-- below 0 nothing fits
+pub zones-below : (len : ℕ) (z n : Amount) → z ≡ Below → Fits len z n → ⊥
+zones-below len z n e = rw e (λ h. h)
+
+pub indexes-below : (len : ℕ) (z n : Amount) → n ≡ Below → Fits len z n → ⊥
+indexes-below len (Is z) n e = rw e (λ h. h)
+indexes-below len Below n e = λ h. h
+
+pub fits-says : (r : Bool) (len x y : ℕ) (z n : Amount) → z ≡ Is x → n ≡ Is y → Says r (Formattable len x y) → Says r (Fits len z n)
+fits-says r len x y z n d e s = rw (d, e) s
+
+pub fits-sizes : (len : ℕ) (z n : Amount) → Fits len z n → Formattable len (sizeOf z) (sizeOf n)
+fits-sizes len (Is z) (Is n) h = h
+fits-sizes len (Is z) Below h = absurd h
+fits-sizes len Below n h = absurd h
+
+-- ---- texts and date
+
+pub texts-says : (r : Bool) (application volume owner code date : List ℕ) → length application ≤ 16 → length volume ≤ 32 → length owner ≤ 32 → length code ≤ 32
+    → Says r (Date date) → Says r (Texts application volume owner code date)
+texts-says r application volume owner code date a v o c s =
+    says-map r (λ d. record { app = a; vol = v; own = o; cod = c; day = d }) (λ t. t .day) s
+
+-- ---- the number
+
+pub sized-most : (b : List ℕ) (r : Bool) → Says r (Sized b) → not r ≡ false → length b ≤ 1048576
+sized-most b r s e = passed r s e .most
+
+module _ (b : List ℕ) (z n : Amount) (application volume : List ℕ) (id : ℕ) (owner code date : List ℕ) where
+  abbrev label : Label
+  label = record { application = application; volume = volume; id = id; owner = owner; code = code; date = date }
+
+  texts-writable : Texts application volume owner code date → Writable label
+  texts-writable t = record { application = t .app; volume = t .vol; owner = t .own; code = t .cod; date = t .day }
+
+  writable-texts : Writable label → Texts application volume owner code date
+  writable-texts w = record { app = w .application; vol = w .volume; own = w .owner; cod = w .code; day = w .date }
+
+  module _ (r : Bool) (s : Says r (Sized b)) where
+    pub number-sized : not r ≡ true → Gate (formatTests b z n label) 1
+    unfolding Gate
+    number-sized e = inr (refused r s e, refl, λ h. omega arith)
+
+    module _ (pass : not r ≡ false) (q : Bool) (t : Says q (Fits (length b) z n)) where
+      pub number-fits : not q ≡ true → Gate (formatTests b z n label) 3
+      unfolding Gate
+      number-fits e = inl (passed r s pass, inr (refused q t e, refl, λ h. omega arith))
+
+      module _ (pass' : not q ≡ false) (v : Bool) (u : Says v (Texts application volume owner code date)) where
+        pub number-texts : not v ≡ true → Gate (formatTests b z n label) 7
+        unfolding Gate
+        number-texts e = inl (passed r s pass, inl (passed q t pass', inr (λ w. refused v u e (writable-texts w), refl, λ h. omega arith)))
+
+        pub number-none : not v ≡ false → Gate (formatTests b z n label) 0
+        unfolding Gate
+        number-none e = inl (passed r s pass, inl (passed q t pass', inl (texts-writable (passed v u e), refl)))
+
+-- ---- the request
+
+-- number 0: all that the writing asks
+zero-sized : (b : List ℕ) (z n : Amount) (l : Label) (r : ℕ) → Gate (formatTests b z n l) r → r ≡ 0 → Sized b
+unfolding Gate
+zero-sized b z n l r (inl h) e = h .0
+zero-sized b z n l r (inr h) e = absurd (h .2 e)
+
+zero-fits : (b : List ℕ) (z n : Amount) (l : Label) (r : ℕ) → Gate (formatTests b z n l) r → r ≡ 0 → Fits (length b) z n
+unfolding Gate
+zero-fits b z n l r (inl (h, inl k)) e = k .0
+zero-fits b z n l r (inl (h, inr k)) e = absurd (k .2 e)
+zero-fits b z n l r (inr h) e = absurd (h .2 e)
+
+zero-writable : (b : List ℕ) (z n : Amount) (l : Label) (r : ℕ) → Gate (formatTests b z n l) r → r ≡ 0 → Writable l
+unfolding Gate
+zero-writable b z n l r (inl (h, inl (k, inl m))) e = m .0
+zero-writable b z n l r (inl (h, inl (k, inr m))) e = absurd (m .2 e)
+zero-writable b z n l r (inl (h, inr k)) e = absurd (k .2 e)
+zero-writable b z n l r (inr h) e = absurd (h .2 e)
+
+pub format-refused : (b : List ℕ) (z n : Amount) (l : Label) (r : ℕ) → Gate (formatTests b z n l) r → r ≢ 0 → Formatted b z n l r b
+format-refused b z n l r g h = record { number = g; books = after-refused r _ b h }
+
+pub format-asks : (b : List ℕ) (z n : Amount) (l : Label) (r x y : ℕ) → Gate (formatTests b z n l) r → r ≡ 0 → x ≡ sizeOf z → y ≡ sizeOf n
+    → Formattable (length b) x y × (((5120 ≤ length b) × (length b ≤ 1048576)) × Writable l)
+format-asks b z n l r x y g e d f =
+    let s = zero-sized b z n l r g e in
+    (rw (d, f) (fits-sizes (length b) z n (zero-fits b z n l r g e)), ((s .least, s .most), zero-writable b z n l r g e))
+
+pub format-done : (b b' : List ℕ) (z n : Amount) (l : Label) (r x y : ℕ) → Gate (formatTests b z n l) r → r ≡ 0 → x ≡ sizeOf z → y ≡ sizeOf n
+    → b' ≡ formatted (length b) x y l → Formatted b z n l 0 b'
+format-done b b' z n l r x y g e d f h = record { number = rw e at g; books = h ∙ ap₂ (λ (i j : ℕ). formatted (length b) i j l) d f }
+
+-- ---- what the promise is worth
+
+pub formatted-one : {b : List ℕ} {z n : Amount} {l : Label} {r s : ℕ} {x y : List ℕ} → Formatted b z n l r x → Formatted b z n l s y → (r ≡ s) × (x ≡ y)
+formatted-one {b} {z} {n} {l} {r} {s} {x} {y} f g =
+    let e = gate-one (formatTests b z n l) r s (f .number) (g .number) in
+    (e, after-one r s x y _ b e (f .books) (g .books))
+
+-- books of an allowed size, formatted as is allowed
+fresh-good : (b : List ℕ) (z n : ℕ) (l : Label) → Sized b → Formattable (length b) z n → Writable l → Good (formatted (length b) z n l) (freshPlaces z n)
+fresh-good b z n l s f w =
+    let len = format-length (length b) z n l (s .least) f w in
+    record {
+      places = sym (format-places (length b) z n l (s .least) f w);
+      sized = record { whole = rw len (s .whole); least = rw len (s .least); most = rw len (s .most) };
+      marked = format-marked (length b) z n l (s .least) f w;
+      placed = format-placed (length b) z n l (s .least) f w;
+      layout = rw len (stand-layout (freshPlaces z n) (length b) (f .least) (f .most) (f .some) (f .few) (s .most) (f .stand));
+      lawful = format-lawful (length b) z n l (s .least) (s .most) f w;
+    }
+
+pub formatted-good : (b : List ℕ) (z n : Amount) (l : Label) (b' : List ℕ) → Formatted b z n l 0 b' → Good b' (freshPlaces (sizeOf z) (sizeOf n))
+formatted-good b z n l b' f =
+    let g = f .number in
+    let h = fits-sizes (length b) z n (zero-fits b z n l 0 g refl) in
+    rw (f .books) (fresh-good b (sizeOf z) (sizeOf n) l (zero-sized b z n l 0 g refl) h (zero-writable b z n l 0 g refl))

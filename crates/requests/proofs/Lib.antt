@@ -1,0 +1,6 @@
+pub mod TextLaws
+pub mod ReportLaws
+pub mod RequestLaws
+pub mod MountLaws
+pub mod AmountLaws
+pub mod FormatRequestLaws

@@ -1,0 +1,136 @@
+-- The report: how long its lines are, and its text by value. Assumes nothing.
+use mathlib.Core.Path.{_≡_, refl, sym, ap, ap₂, _∙_}
+use mathlib.Core.Logic.{_≢_}
+use mathlib.Core.List.{List, [], _∷_, _++_}
+use Prim.Native.Nat.{ℕ, zero, suc, _+_, _-_, _*_, _^_, _≤_, _<_}
+use native.Mathlib.Nat.{zero-add}
+use native.Mathlib.Omega.{arith}
+use lib.ListN.{length, drop, replicate, length-append, length-replicate, replicate-append-replicate}
+use lib.Seq.{drop-at}
+use lib.Dec.{eqb}
+use Rattle.field.specs.Parts.{over}
+use Rattle.field.proofs.Sums.{sum-le}
+use Rattle.field.proofs.RunLaws.{count-le}
+use Rattle.tables.specs.declared.places.Places.{Places}
+use Rattle.tables.specs.Indexes.{wordOf, attributeOf}
+use Rattle.tables.specs.Views.{View, viewOf, tally}
+use Rattle.tables.specs.Open.{isOpen, openZones}
+use Rattle.tables.specs.Rules.R8.{directoryBit, systemBit}
+use Rattle.tables.specs.Rules.R9.{deletedBit, freeOne, activeOne, deletedOne, systemOne, directoryOne}
+use Rattle.tables.specs.Gates.{Gate}
+use Rattle.tables.specs.Books.{Good, bookTests}
+use Rattle.tables.proofs.CountLaws.{only-le}
+use Rattle.tables.proofs.GateLaws.{gate-one, good-zero}
+use Rattle.requests.specs.declared.report.Figures.{Figures}
+use Rattle.requests.specs.declared.report.Text.{Text}
+use Rattle.requests.specs.Text.{decimal, lineOf, Put}
+use Rattle.requests.specs.Report.{zonesLine, sectorsLine, usedLine, indexesLine, freeLine, activeLine, deletedLine, systemLine, directoryLine, openLine, mountedLine, sizeLines, fileLines, stateLines, linesOf, refusedLine, Small, textOf, figuresOf, reportOf, Reported}
+use Rattle.requests.proofs.TextLaws.{line-length, decimal-few}
+
+-- a line of a number below 10 ^ (k + 1)
+short : (name : List ℕ) (k n : ℕ) → n < 10 ^ (k + 1) → length (lineOf name n) ≤ length name + k + 2
+short name k n h = omega (arith, line-length name n, decimal-few k n h)
+
+three : (a b c : List ℕ) → length (a ++ (b ++ c)) ≡ length a + (length b + length c)
+three a b c = omega (arith, length-append a (b ++ c), length-append b c)
+
+four : (a b c d : List ℕ) → length (a ++ (b ++ (c ++ d))) ≡ length a + (length b + (length c + length d))
+four a b c d = omega (arith, length-append a (b ++ (c ++ d)), three b c d)
+
+module _ (f : Figures) (s : Small f) where
+  sizes-short : length (sizeLines f) ≤ 51
+  unfolding sizeLines
+  sizes-short =
+      omega (arith, four (zonesLine f) (sectorsLine f) (usedLine f) (indexesLine f), short (122 ∷ 111 ∷ 110 ∷ 101 ∷ 115 ∷ 61 ∷ []) 2 (f .zones) (omega (arith, s .zones)), short (115 ∷ 101 ∷ 99 ∷ 116 ∷ 111 ∷ 114 ∷ 115 ∷ 61 ∷ []) 5 (f .sectors) (omega (arith, s .sectors)), short (117 ∷ 115 ∷ 101 ∷ 100 ∷ 61 ∷ []) 5 (f .used) (omega (arith, s .used)), short (105 ∷ 110 ∷ 100 ∷ 101 ∷ 120 ∷ 101 ∷ 115 ∷ 61 ∷ []) 3 (f .indexes) (omega (arith, s .indexes)))
+
+  files-short : length (fileLines f) ≤ 55
+  unfolding fileLines
+  files-short =
+      omega (arith, four (freeLine f) (activeLine f) (deletedLine f) (systemLine f), short (102 ∷ 114 ∷ 101 ∷ 101 ∷ 95 ∷ 105 ∷ 110 ∷ 100 ∷ 101 ∷ 120 ∷ 101 ∷ 115 ∷ 61 ∷ []) 3 (f .free) (omega (arith, s .free)), short (97 ∷ 99 ∷ 116 ∷ 105 ∷ 118 ∷ 101 ∷ 61 ∷ []) 3 (f .active) (omega (arith, s .active)), short (100 ∷ 101 ∷ 108 ∷ 101 ∷ 116 ∷ 101 ∷ 100 ∷ 61 ∷ []) 3 (f .deleted) (omega (arith, s .deleted)), short (115 ∷ 121 ∷ 115 ∷ 116 ∷ 101 ∷ 109 ∷ 61 ∷ []) 3 (f .system) (omega (arith, s .system)))
+
+  state-short : length (stateLines f) ≤ 42
+  unfolding stateLines
+  state-short =
+      omega (arith, three (directoryLine f) (openLine f) (mountedLine f), short (100 ∷ 105 ∷ 114 ∷ 101 ∷ 99 ∷ 116 ∷ 111 ∷ 114 ∷ 121 ∷ 61 ∷ []) 3 (f .directory) (omega (arith, s .directory)), short (111 ∷ 112 ∷ 101 ∷ 110 ∷ 95 ∷ 122 ∷ 111 ∷ 110 ∷ 101 ∷ 115 ∷ 61 ∷ []) 2 (f .openzones) (omega (arith, s .openzones)), short (109 ∷ 111 ∷ 117 ∷ 110 ∷ 116 ∷ 101 ∷ 100 ∷ 61 ∷ []) 0 (f .mounted) (omega (arith, s .mounted)))
+
+  pub lines-short : length (linesOf f) ≤ 148
+  unfolding linesOf
+  lines-short = omega (arith, three (sizeLines f) (fileLines f) (stateLines f), sizes-short, files-short, state-short)
+
+pub refused-short : (n : ℕ) → n < 4294967296 → length (refusedLine n) ≤ 19
+unfolding refusedLine
+refused-short n h = short _ 9 n (omega arith)
+
+-- nulls behind the text
+drop-nulls : (k n : ℕ) → k ≤ n → _≡_ {A = List ℕ} (drop k (replicate n 0)) (replicate (n - k) 0)
+drop-nulls k n h =
+    let e : k + (n - k) ≡ n = omega arith in
+    ap (λ (m : ℕ). drop {A = ℕ} k (replicate m 0)) (sym e) ∙ ap (drop {A = ℕ} k) (sym (replicate-append-replicate k (n - k) 0)) ∙ drop-at (replicate k 0) (replicate (n - k) 0) k (length-replicate {A = ℕ} k 0)
+
+pub text-made : (xs bytes : List ℕ) (len : ℕ) → length xs ≤ 192 → Put (replicate 192 0) 0 xs bytes len → _≡_ {A = Text} (record { bytes = bytes; length = len }) (textOf xs)
+unfolding textOf over
+text-made xs bytes len h p =
+    let b : bytes ≡ xs ++ replicate (192 - length xs) 0 = p .bytes ∙ ap (λ (x : List ℕ). xs ++ x) (ap (λ (k : ℕ). drop {A = ℕ} k (replicate 192 0)) (zero-add (length xs)) ∙ drop-nulls (length xs) 192 h) in
+    let l : len ≡ length xs = p .end ∙ zero-add (length xs) in
+    ap₂ (λ (x : List ℕ) (n : ℕ). record { bytes = x; length = n }) b l
+
+-- ---- the figures of lawful books are small
+
+tally-few : (v : View) (f : ℕ → List ℕ → ℕ) → ((i : ℕ) (t : List ℕ) → f i t ≤ 1) → tally v f ≤ v .indexes
+unfolding tally
+tally-few v f h = sum-le (v .indexes) _ (λ k l. h (k + 1) (v .table (k + 1)))
+
+free-few : (i : ℕ) (t : List ℕ) → freeOne i t ≤ 1
+unfolding freeOne
+free-few i t = only-le _ 1
+
+active-few : (i : ℕ) (t : List ℕ) → activeOne i t ≤ 1
+unfolding activeOne
+active-few i t = omega (arith, only-le (eqb (wordOf t) i) (1 - deletedBit (attributeOf t)))
+
+deleted-few : (i : ℕ) (t : List ℕ) → deletedOne i t ≤ 1
+unfolding deletedOne
+deleted-few i t = omega (arith, only-le (eqb (wordOf t) i) (deletedBit (attributeOf t)))
+
+system-few : (i : ℕ) (t : List ℕ) → systemOne i t ≤ 1
+unfolding systemOne
+system-few i t = omega (arith, only-le (eqb (activeOne i t) 1) (systemBit (attributeOf t)))
+
+directory-few : (i : ℕ) (t : List ℕ) → directoryOne i t ≤ 1
+unfolding directoryOne
+directory-few i t = omega (arith, only-le (eqb (activeOne i t) 1) (directoryBit (attributeOf t)))
+
+open-few : (v : View) → openZones v ≤ v .zones - 2
+unfolding openZones
+open-few v = sum-le (v .zones - 2) _ (λ k l. only-le (isOpen (v .zone (k + 2))) 1)
+
+pub good-small : (b : List ℕ) (p : Places) (f : Figures) → Good b p → f ≡ figuresOf p b → Small f
+good-small b p f g e =
+    let v : View = viewOf p b in
+    let r = g .lawful .r9 in
+    let l = g .layout in
+    rw e (record {
+      zones = l .most;
+      sectors = omega (arith, l .most);
+      used = omega (arith, l .most, count-le b (p .sectortable) 0 (1024 * p .zones));
+      indexes = l .few;
+      free = omega (arith, l .few, r .free, tally-few v freeOne free-few);
+      active = omega (arith, l .few, r .active, tally-few v activeOne active-few);
+      deleted = omega (arith, l .few, r .deleted, tally-few v deletedOne deleted-few);
+      system = omega (arith, l .few, r .system, tally-few v systemOne system-few);
+      directory = omega (arith, l .few, r .directory, tally-few v directoryOne directory-few);
+      openzones = omega (arith, l .most, open-few v);
+      mounted = r .flag;
+    })
+
+-- ---- the report's two ways out, and one result
+
+pub report-refused : (b : List ℕ) (n : ℕ) (t : Text) → Gate (bookTests b) n × (n ≢ 0) → t ≡ textOf (refusedLine n) → Reported b t
+report-refused b zero t h e = absurd (h .1 refl)
+report-refused b (suc k) t h e = record { number = suc k; gate = h .0; text = e }
+
+pub report-fine : (b : List ℕ) (p : Places) (f : Figures) (t : Text) → Good b p → f ≡ figuresOf p b → t ≡ textOf (linesOf f) → Reported b t
+report-fine b p f t g q e = record { number = 0; gate = good-zero b p g; text = e ∙ ap (λ (x : Figures). textOf (linesOf x)) (q ∙ ap (λ (x : Places). figuresOf x b) (g .places)) }
+
+pub reported-one : (b : List ℕ) (t u : Text) → Reported b t → Reported b u → t ≡ u
+reported-one b t u h k = h .text ∙ ap (λ (n : ℕ). textOf (reportOf n b)) (gate-one (bookTests b) (h .number) (k .number) (h .gate) (k .gate)) ∙ sym (k .text)

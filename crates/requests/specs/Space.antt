@@ -1,0 +1,37 @@
+-- "Space: 1024Z and the number of set bits."
+use mathlib.Core.Path.{_≡_}
+use Prim.Native.Nat.{ℕ, zero, suc, _*_}
+use mathlib.Core.List.{List}
+use Rattle.field.specs.Runs.{countBits}
+use Rattle.tables.specs.Sector0.{zonesOf, sectorStartOf}
+use Rattle.tables.specs.Gates.{Gate}
+use Rattle.requests.specs.declared.space.Space.{Space}
+use Rattle.requests.specs.declared.space.Space.the-variants.{Is, Refused}
+use Rattle.requests.specs.Answers.{useTests}
+
+-- the number of set bits of the sector table
+unfoldable pub usedSectors : List ℕ → ℕ
+usedSectors b = countBits b (1024 * sectorStartOf b) 0 (1024 * zonesOf b)
+
+-- this paper's number and values of an answer
+abbrev pub numberOf : Space → ℕ
+numberOf (Is s u) = 0
+numberOf (Refused n) = n
+
+abbrev pub sectorsValue : Space → ℕ
+sectorsValue (Is s u) = s
+sectorsValue (Refused n) = 0
+
+abbrev pub usedValue : Space → ℕ
+usedValue (Is s u) = u
+usedValue (Refused n) = 0
+
+-- the answer of a number: with its values where it is 0
+abbrev pub spaceOf : ℕ → List ℕ → Space
+spaceOf zero b = Is (1024 * zonesOf b) (usedSectors b)
+spaceOf (suc k) b = Refused (suc k)
+
+-- space's promise
+pub record Spaced (b : List ℕ) (r : Space) : Type 0 where
+  pub number : Gate (useTests b) (numberOf r)
+  pub answer : r ≡ spaceOf (numberOf r) b

@@ -1,18 +1,19 @@
 -- The report: how long its lines are, and its text by value. Assumes nothing.
 use mathlib.Core.Path.{_≡_, refl, sym, ap, ap₂, _∙_}
-use mathlib.Core.Logic.{_≢_}
+use mathlib.Core.Logic.{_⊎_, inl, inr, _≢_}
 use mathlib.Core.List.{List, [], _∷_, _++_}
 use Prim.Native.Nat.{ℕ, zero, suc, _+_, _-_, _*_, _^_, _≤_, _<_}
 use native.Mathlib.Nat.{zero-add}
 use native.Mathlib.Omega.{arith}
-use lib.ListN.{length, drop, replicate, length-append, length-replicate, replicate-append-replicate}
-use lib.Seq.{drop-at}
+use lib.ListN.{length, take, drop, replicate, length-append, length-replicate, replicate-append-replicate}
+use lib.Seq.{take-at, drop-at}
 use lib.Dec.{eqb}
 use Rattle.field.specs.Parts.{over}
 use Rattle.field.proofs.Sums.{sum-le}
 use Rattle.field.proofs.RunLaws.{count-le}
 use Rattle.tables.specs.declared.places.Places.{Places}
 use Rattle.tables.specs.Indexes.{wordOf, attributeOf}
+use Rattle.tables.specs.Places.{placesOf}
 use Rattle.tables.specs.Views.{View, viewOf, tally}
 use Rattle.tables.specs.Open.{isOpen, openZones}
 use Rattle.tables.specs.Rules.R8.{directoryBit, systemBit}
@@ -125,12 +126,46 @@ good-small b p f g e =
 
 -- ---- the report's two ways out, and one result
 
+-- the books' own numbers
+books-few : (b : List ℕ) (n : ℕ) → Gate (bookTests b) n → n ≤ 4
+unfolding Gate
+books-few b n (inr h) = omega (arith, h .1)
+books-few b n (inl (_, inr h)) = omega (arith, h .1)
+books-few b n (inl (_, inl (_, inr h))) = omega (arith, h .1)
+books-few b n (inl (_, inl (_, inl (_, inr h)))) = omega (arith, h .1)
+books-few b n (inl (_, inl (_, inl (_, inl (_, h))))) = omega arith
+
 pub report-refused : (b : List ℕ) (n : ℕ) (t : Text) → Gate (bookTests b) n × (n ≢ 0) → t ≡ textOf (refusedLine n) → Reported b t
 report-refused b zero t h e = absurd (h .1 refl)
-report-refused b (suc k) t h e = record { number = suc k; gate = h .0; text = e }
+report-refused b (suc k) t h e = record { number = suc k; gate = h .0; text = e; short = omega (arith, refused-short (suc k) (omega (arith, books-few b (suc k) (h .0)))) }
 
 pub report-fine : (b : List ℕ) (p : Places) (f : Figures) (t : Text) → Good b p → f ≡ figuresOf p b → t ≡ textOf (linesOf f) → Reported b t
-report-fine b p f t g q e = record { number = 0; gate = good-zero b p g; text = e ∙ ap (λ (x : Figures). textOf (linesOf x)) (q ∙ ap (λ (x : Places). figuresOf x b) (g .places)) }
+report-fine b p f t g q e =
+    let same : linesOf f ≡ linesOf (figuresOf (placesOf b) b) = ap linesOf (q ∙ ap (λ (x : Places). figuresOf x b) (g .places)) in
+    record { number = 0; gate = good-zero b p g; text = e ∙ ap textOf same; short = omega (arith, ap length same, lines-short f (good-small b p f g q)) }
 
 pub reported-one : (b : List ℕ) (t u : Text) → Reported b t → Reported b u → t ≡ u
 reported-one b t u h k = h .text ∙ ap (λ (n : ℕ). textOf (reportOf n b)) (gate-one (bookTests b) (h .number) (k .number) (h .gate) (k .gate)) ∙ sym (k .text)
+
+-- ---- what a caller does with the text
+
+-- the text by value holds the lines at its start
+pub text-length : (xs : List ℕ) (t : Text) → t ≡ textOf xs → t .length ≡ length xs
+unfolding textOf
+text-length xs t e = ap (λ (x : Text). x .length) e
+
+pub text-part : (xs : List ℕ) (t : Text) → t ≡ textOf xs → take (t .length) (t .bytes) ≡ xs
+unfolding textOf
+text-part xs t e = ap (λ (x : Text). take (x .length) (x .bytes)) e ∙ take-at xs (replicate (192 - length xs) 0) (length xs) refl
+
+pub report-room : (b : List ℕ) (t : Text) → Reported b t → t .length ≤ 192
+report-room b t h = omega (arith, text-length (reportOf (h .number) b) t (h .text), h .short)
+
+pub report-fits : (b : List ℕ) (t : Text) → Reported b t → t .length ≤ length (t .bytes)
+unfolding textOf
+report-fits b t h =
+    let xs : List ℕ = reportOf (h .number) b in
+    omega (arith, text-length xs t (h .text), ap (λ (x : Text). length (x .bytes)) (h .text), length-append xs (replicate (192 - length xs) 0))
+
+pub report-count : (b : List ℕ) (t : Text) → Reported b t → t .length ≡ length (take (t .length) (t .bytes))
+report-count b t h = text-length (reportOf (h .number) b) t (h .text) ∙ sym (ap length (text-part (reportOf (h .number) b) t (h .text)))

@@ -117,8 +117,9 @@ abbrev pub reportOf : ℕ → List ℕ → List ℕ
 reportOf zero b = linesOf (figuresOf (placesOf b) b)
 reportOf (suc k) b = refusedLine (suc k)
 
--- report's promise: every byte of its text
+-- report's promise: every byte of its text, which has room
 pub record Reported (b : List ℕ) (t : Text) : Type 0 where
   pub number : ℕ
   pub gate : Gate (bookTests b) number
   pub text : t ≡ textOf (reportOf number b)
+  pub short : length (reportOf number b) ≤ 192

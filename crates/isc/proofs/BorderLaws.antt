@@ -1,0 +1,47 @@
+-- The C border: what a request answered, handed back by number, pointer and buffer. Assumes nothing.
+use mathlib.Core.Path.{_≡_, refl, ap, _∙_}
+use mathlib.Core.List.{List}
+use Prim.Native.Nat.{ℕ, _+_, _≤_, _<_}
+use native.Mathlib.Omega.{arith}
+use lib.ListN.{length, take}
+use lib.IntN.{ℤ}
+use Rattle.field.specs.Parts.{over}
+use Rattle.requests.specs.declared.space.Space.{Space}
+use Rattle.requests.specs.declared.space.Space.the-variants.{Is, Refused}
+use Rattle.requests.specs.declared.report.Text.{Text}
+use Rattle.requests.specs.declared.amount.Amount.{Amount}
+use Rattle.tables.specs.Format.{Label}
+use Rattle.requests.specs.Amounts.{amountOf}
+use Rattle.requests.specs.Format.{Formatted}
+use Rattle.requests.specs.Space.{Spaced}
+use Rattle.requests.specs.Report.{reportOf, Reported}
+use Rattle.requests.proofs.ReportLaws.{text-length, text-part}
+use Rattle.isc.specs.Border.{SpaceOut, Lines, ReportOut}
+
+pub space-is : (b : List ℕ) (found : Space) (s u : ℕ) → Spaced b found → found ≡ Is s u → SpaceOut b 0 s u
+space-is b found s u h e = record { answer = Is s u; spaced = rw e at h; number = refl; all = refl; taken = refl }
+
+pub space-no : (b : List ℕ) (found : Space) (n : ℕ) → Spaced b found → found ≡ Refused n → SpaceOut b n 0 0
+space-no b found n h e = record { answer = Refused n; spaced = rw e at h; number = refl; all = refl; taken = refl }
+
+pub report-short : (b text : List ℕ) → length text < 192 → ReportOut b text 7 text 0
+report-short b text h = record { refused = λ l. (refl, refl, refl); written = λ l. absurd (omega arith) }
+
+pub report-lines : (b text text' : List ℕ) (t : Text) → 192 ≤ length text → Reported b t → text' ≡ over text 0 (take (t .length) (t .bytes)) → ReportOut b text 0 text' (t .length)
+report-lines b text text' t l h e = record {
+  refused = λ s. absurd (omega arith);
+  written = λ s. record {
+    number = h .number;
+    gate = h .gate;
+    zero = refl;
+    bytes = e ∙ ap (over text 0) (text-part (reportOf (h .number) b) t (h .text));
+    count = text-length (reportOf (h .number) b) t (h .text);
+  };
+}
+
+pub report-copies : (b text : List ℕ) (t : Text) → 192 ≤ length text → Reported b t → 0 + length (take (t .length) (t .bytes)) ≤ length text
+report-copies b text t l h = omega (arith, ap length (text-part (reportOf (h .number) b) t (h .text)), h .short)
+
+-- signed arguments, taken apart
+pub format-border : (b b' : List ℕ) (x y : ℤ) (z n : Amount) (l : Label) (r : ℕ) → z ≡ amountOf x → n ≡ amountOf y → Formatted b z n l r b' → Formatted b (amountOf x) (amountOf y) l r b'
+format-border b b' x y z n l r e f h = rw (← e, ← f) h

@@ -1,0 +1,32 @@
+-- What the C functions hand back beside a request's own promise: values through pointers, a text into a lent buffer.
+use mathlib.Core.Path.{_≡_}
+use Prim.Native.Nat.{ℕ, _≤_, _<_}
+use mathlib.Core.List.{List}
+use lib.ListN.{length}
+use Rattle.field.specs.Parts.{over}
+use Rattle.tables.specs.Gates.{Gate}
+use Rattle.tables.specs.Books.{bookTests}
+use Rattle.requests.specs.declared.space.Space.{Space}
+use Rattle.requests.specs.Space.{numberOf, sectorsValue, usedValue, Spaced}
+use Rattle.requests.specs.Report.{reportOf}
+
+-- space: the number and the values of the answer, zeros on a refusal
+pub record SpaceOut (b : List ℕ) (r sectors used : ℕ) : Type 0 where
+  pub answer : Space
+  pub spaced : Spaced b answer
+  pub number : r ≡ numberOf answer
+  pub all : sectors ≡ sectorsValue answer
+  pub taken : used ≡ usedValue answer
+
+-- the report's lines stand at the start of the text, and their length is answered
+pub record Lines (b text : List ℕ) (r : ℕ) (text' : List ℕ) (len : ℕ) : Type 0 where
+  pub number : ℕ
+  pub gate : Gate (bookTests b) number
+  pub zero : r ≡ 0
+  pub bytes : text' ≡ over text 0 (reportOf number b)
+  pub count : len ≡ length (reportOf number b)
+
+-- report: a text shorter than 192 bytes is refused as 7, with nothing written
+pub record ReportOut (b text : List ℕ) (r : ℕ) (text' : List ℕ) (len : ℕ) : Type 0 where
+  pub refused : length text < 192 → (r ≡ 7) × (text' ≡ text) × (len ≡ 0)
+  pub written : 192 ≤ length text → Lines b text r text' len

@@ -1,0 +1,82 @@
+// The C interface: each function takes its numbers and slices, calls one request, and hands back the number and the values.
+use field::parts::copy;
+use requests::amount::amount_of;
+use requests::dismount::dismount;
+use requests::format::format;
+use requests::mount::mount;
+use requests::report::report;
+use requests::space::Space;
+use requests::space::space_of;
+ghost use mathlib.Core.Path.{_≡_};
+ghost use Rattle.requests.specs.Amounts.{amountOf};
+ghost use Rattle.requests.specs.Format.{Formatted};
+ghost use Rattle.requests.specs.Mount.{Mounted, Dismounted};
+ghost use Rattle.isc.specs.Border.{SpaceOut, ReportOut};
+
+#[no_mangle]
+pub extern "C" fn isc_format(
+    books: &mut [u8],
+    zones: i32,
+    indexes: i32,
+    application: &[u8],
+    volume: &[u8],
+    id: u32,
+    owner: &[u8],
+    code: &[u8],
+    date: &[u8],
+) -> u32
+    ensures { λ r. ⌜ Formatted (now (books .entry)) (amountOf zones) (amountOf indexes) (record { application = now (application .entry); volume = now (volume .entry); id = id; owner = now (owner .entry); code = now (code .entry); date = now (date .entry) }) r (now (books .exit)) ⌝ }
+{
+    let z = amount_of(zones);
+    let n = amount_of(indexes);
+    format(books, z, n, application, volume, id, owner, code, date)
+}
+
+#[no_mangle]
+pub extern "C" fn isc_mount(books: &mut [u8]) -> u32
+    ensures { λ r. ⌜ Mounted (now (books .entry)) r (now (books .exit)) ⌝ }
+{
+    mount(books)
+}
+
+#[no_mangle]
+pub extern "C" fn isc_dismount(books: &mut [u8]) -> u32
+    ensures { λ r. ⌜ Dismounted (now (books .entry)) r (now (books .exit)) ⌝ }
+{
+    dismount(books)
+}
+
+#[no_mangle]
+pub extern "C" fn isc_space(books: &[u8], sectors: &mut u32, used: &mut u32) -> u32
+    ensures { λ r. ⌜ SpaceOut (now (books .entry)) r (now (sectors .exit)) (now (used .exit)) ⌝ }
+{
+    let found = space_of(books);
+    match found {
+        Space::Is(s, u) => {
+            *sectors = s;
+            *used = u;
+            0
+        }
+        Space::Refused(n) => {
+            *sectors = 0;
+            *used = 0;
+            n
+        }
+    }
+}
+
+#[no_mangle]
+pub extern "C" fn isc_report(books: &[u8], text: &mut [u8], length: &mut u32) -> u32
+    ensures { λ r. ⌜ ReportOut (now (books .entry)) (now (text .entry)) r (now (text .exit)) (now (length .exit)) ⌝ }
+{
+    if text.len() < 192 {
+        *length = 0;
+        return 7;
+    }
+    let t = report(books);
+    let n = t.length;
+    let bytes = t.bytes;
+    copy(text, 0, &bytes[..n]);
+    *length = n as u32;
+    0
+}

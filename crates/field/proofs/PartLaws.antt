@@ -1,14 +1,20 @@
 -- The laws of parts that are laid over. Assumes nothing.
 use mathlib.Core.Path.{_≡_, refl, sym, ap, _∙_}
 use mathlib.Core.Logic.{_⊎_, inl, inr, ⊎-elim}
-use Prim.Native.Nat.{ℕ, _+_, _-_, _≤_, _<_}
+use Prim.Native.Nat.{ℕ, _+_, _-_, _*_, _≤_, _<_}
+use native.Mathlib.Nat.{add-zero}
+use native.Mathlib.Decide.{ℕ-discrete, decLt}
+use lib.Dec.{eqb}
 use native.Mathlib.Numerals.{add-one}
 use native.Mathlib.Omega.{arith}
 use mathlib.Core.List.{List, _++_, append-assoc}
 use lib.ListN.{getD, set, length, take, drop, replicate, length-drop, length-append, length-replicate, getD-replicate, List·getD-append}
 use lib.Seq.{paste, paste-suc, ext-getD, take-length, getD-take, getD-drop, getD-append-add, length-take-le, drop-at, take-at}
-use Rattle.field.specs.Parts.{over}
+use Rattle.field.specs.Says.{Says}
+use Rattle.field.specs.Numbers.{u32At}
+use Rattle.field.specs.Parts.{over, AllBytes}
 use Rattle.field.specs.Kept.{Kept, Apart}
+use Rattle.field.proofs.Tests.{says-eq}
 use Rattle.field.proofs.NumberLaws.{getD-part}
 
 -- the kit's copy of all of ys
@@ -66,3 +72,72 @@ pub same-all : (s t : List ℕ) (at : ℕ) → at + length t ≤ length s → ((
 same-all s t at h all =
     let e : length (take (length t) (drop at s)) ≡ length t = length-take-le (length t) (drop at s) (omega (arith, length-drop at s)) in
     ext-getD 0 (take (length t) (drop at s)) t e (λ k l. getD-part s at (length t) k (omega (arith, e)) ∙ all k (omega (arith, e)))
+
+-- ---- bytes that are all the same, four and eight at a time
+
+-- the last digit of 256, and the rest
+last-digit : (a d c v : ℕ) → d < 256 → v < 256 → a * 256 + d ≡ c * 256 + v → (a ≡ c) × (d ≡ v)
+last-digit a d c v hd hv e =
+    elim (decLt a c) [
+      | yes l ↦ absurd (omega arith)
+      | no g ↦ elim (decLt c a) [ yes l ↦ absurd (omega arith) | no h ↦ (omega arith, omega arith) ]
+    ]
+
+-- the number of four bytes is that of four times v exactly where each is v
+record Four (w x y z v : ℕ) : Type 0 where
+  pub first : w ≡ v
+  pub second : x ≡ v
+  pub third : y ≡ v
+  pub fourth : z ≡ v
+
+four-digits : (w x y z v : ℕ) → w < 256 → x < 256 → y < 256 → z < 256 → v < 256 → w * 16777216 + x * 65536 + y * 256 + z ≡ 16843009 * v → Four w x y z v
+four-digits w x y z v hw hx hy hz hv e =
+    let c₁ = last-digit (w * 65536 + x * 256 + y) z (v * 65536 + v * 256 + v) v hz hv (omega arith) in
+    let c₂ = last-digit (w * 256 + x) y (v * 256 + v) v hy hv (omega (arith, c₁ .0)) in
+    let c₃ = last-digit w x v v hx hv (omega (arith, c₂ .0)) in
+    record { first = c₃ .0; second = c₃ .1; third = c₂ .1; fourth = c₁ .1 }
+
+four-same : (b : List ℕ) (o v : ℕ) → v < 256 → ((j : ℕ) → getD b j 0 < 256) → u32At b o ≡ 16843009 * v → AllBytes b o 4 v
+unfolding u32At
+four-same b o v hv small e k l =
+    let f = four-digits (getD b o 0) (getD b (o + 1) 0) (getD b (o + 2) 0) (getD b (o + 3) 0) v (small o) (small (o + 1)) (small (o + 2)) (small (o + 3)) hv e in
+    elim (ℕ-discrete k 0) [
+      | yes q ↦ rw (q, add-zero o) (f .first)
+      | no n0 ↦ elim (ℕ-discrete k 1) [
+        | yes q ↦ rw q (f .second)
+        | no n1 ↦ elim (ℕ-discrete k 2) [
+          | yes q ↦ rw q (f .third)
+          | no n2 ↦ (let q : k ≡ 3 = omega arith in rw q (f .fourth))
+        ]
+      ]
+    ]
+
+same-four : (b : List ℕ) (o v : ℕ) → AllBytes b o 4 v → u32At b o ≡ 16843009 * v
+unfolding u32At
+same-four b o v h = omega (arith, rw (add-zero o) at (h 0 (omega arith)), h 1 (omega arith), h 2 (omega arith), h 3 (omega arith))
+
+-- bytes behind bytes
+pub all-behind : (b : List ℕ) (at i w v : ℕ) → AllBytes b at i v → AllBytes b (at + i) w v → AllBytes b at (i + w) v
+all-behind b at i w v h g k l =
+    elim (decLt k i) [
+      | yes lo ↦ h k lo
+      | no hi ↦ (let e : at + i + (k - i) ≡ at + k = omega arith in rw e at (g (k - i) (omega arith)))
+    ]
+
+pub all-within : (b : List ℕ) (at i w n v : ℕ) → i + w ≤ n → AllBytes b at n v → AllBytes b (at + i) w v
+all-within b at i w n v h all k l = let e : at + (i + k) ≡ at + i + k = omega arith in rw e at (all (i + k) (omega arith))
+
+module _ (b : List ℕ) (at w v : ℕ) where
+  pub one-says : (x : ℕ) → w ≡ 1 → x ≡ getD b at 0 → Says (eqb x v) (AllBytes b at w v)
+  one-says x e h = rw e (says-eq x v (λ q k l. ap (λ (j : ℕ). getD b j 0) (let f : at + k ≡ at = omega arith in f) ∙ sym h ∙ q) (λ all. h ∙ sym (ap (λ (j : ℕ). getD b j 0) (add-zero at)) ∙ all 0 (omega arith)))
+
+  pub first-four : (x : ℕ) → (w ≡ 1) ⊎ (w ≡ 8) → (w ≡ 1 → ⊥) → x ≡ u32At b at → (x ≡ 16843009 * v → ⊥) → AllBytes b at w v → ⊥
+  first-four x (inl one) ne h q all = ne one
+  first-four x (inr eight) ne h q all = q (h ∙ same-four b at v (λ k l. all k (omega arith)))
+
+  pub both-fours : (x y : ℕ) → (w ≡ 1) ⊎ (w ≡ 8) → (w ≡ 1 → ⊥) → v < 256 → ((j : ℕ) → getD b j 0 < 256) → x ≡ u32At b at → x ≡ 16843009 * v → y ≡ u32At b (at + 4) → Says (eqb y (16843009 * v)) (AllBytes b at w v)
+  both-fours x y (inl one) ne hv small h q g = absurd (ne one)
+  both-fours x y (inr eight) ne hv small h q g =
+      rw eight (says-eq y (16843009 * v)
+      (λ e. all-behind b at 4 4 v (four-same b at v hv small (sym h ∙ q)) (four-same b (at + 4) v hv small (sym g ∙ e)))
+      (λ all. g ∙ same-four b (at + 4) v (all-within b at 4 4 8 v (omega arith) all)))

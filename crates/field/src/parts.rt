@@ -1,6 +1,9 @@
 // Parts of a lent slice: copied over, filled, compared.
+use crate::numbers::get_u32;
+use crate::numbers::wide;
 ghost use mathlib.Core.Path.{_≡_};
-ghost use Prim.Native.Nat.{_+_, _≤_};
+ghost use mathlib.Core.Logic.{_⊎_};
+ghost use Prim.Native.Nat.{_+_, _≤_, _<_};
 ghost use lib.ListN.{length, take, drop, replicate};
 ghost use Rattle.field.specs.Says.{Says};
 ghost use Rattle.field.specs.Parts.{over, AllBytes};
@@ -44,6 +47,33 @@ pub fn same(s: &[u8], at: usize, t: &[u8]) -> bool
     true
 }
 
+// How many bytes are next looked at together: eight, else one.
+fn stride(left: usize) -> usize
+    requires { ⌜ 0 < left ⌝ }
+    ensures { λ r. ⌜ (0 < r) × (r ≤ left) × ((r ≡ 1) ⊎ (r ≡ 8)) ⌝ }
+{
+    if left < 8 {
+        return 1;
+    }
+    8
+}
+
+// Are the w bytes from `at` on, one or eight, all v?
+fn some_all(s: &[u8], at: usize, w: usize, v: u8) -> bool
+    requires { ⌜ at + w ≤ length (now s) ⌝ }
+    requires { ⌜ (w ≡ 1) ⊎ (w ≡ 8) ⌝ }
+    ensures { λ r. ⌜ Says r (AllBytes (now (s .entry)) at w v) ⌝ }
+{
+    if w == 1 {
+        return s[at] == v;
+    }
+    let word = 16843009 * wide(v);
+    if get_u32(s, at) != word {
+        return false;
+    }
+    get_u32(s, at + 4) == word
+}
+
 // Are the n bytes from `at` on all v?
 pub fn bytes_all(s: &[u8], at: usize, n: usize, v: u8) -> bool
     requires { ⌜ at + n ≤ length (now s) ⌝ }
@@ -51,10 +81,11 @@ pub fn bytes_all(s: &[u8], at: usize, n: usize, v: u8) -> bool
 {
     let mut i: usize = 0;
     while i < n {
-        if s[at + i] != v {
+        let w = stride(n - i);
+        if !some_all(s, at + i, w, v) {
             return false;
         }
-        i += 1;
+        i += w;
     }
     true
 }

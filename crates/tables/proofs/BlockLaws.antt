@@ -1,6 +1,6 @@
 -- Blocks: the six sizes once, and what follows for any size that makes up a zone. Assumes nothing.
 use mathlib.Core.Path.{_≡_, refl, sym, ap, _∙_, subst}
-use Prim.Native.Nat.{ℕ, zero, suc, _+_, _-_, _*_, _/_, _≤_, _<_}
+use Prim.Native.Nat.{ℕ, zero, suc, _+_, _-_, _*_, _/_, _%_, _^_, _≤_, _<_}
 use native.Mathlib.Nat.{mul-le-mul-right, add-mul, one-mul}
 use native.Mathlib.Decide.{ℕ-discrete}
 use native.Mathlib.Omega.{arith}
@@ -43,8 +43,9 @@ block-end i count size lt = omega (arith, mul-le-mul-right {m = i + 1} {n = coun
 pub block-in : (k size : ℕ) → Block size → k < 1024 / size → k * size + size ≤ 1024
 block-in k size b l = omega (arith, block-end k (1024 / size) size l, b .whole)
 
--- a size that is found by the type
-pub size-at : (t n size : ℕ) → Typed t → t ≡ n → size ≡ blockOf n → (size ≡ blockOf t) × Block size
-size-at t n size typed e h =
-    let q : size ≡ blockOf t = h ∙ ap blockOf (sym e) in
-    (q, subst Block (sym q) (block-of t typed))
+-- four times as many sectors from each type to the next, by a shift
+pub size-shift : (t : ℕ) → Typed t → ((1 * 2 ^ (2 * (t - 3))) % 2 ^ 32 ≡ blockOf t) × Block ((1 * 2 ^ (2 * (t - 3))) % 2 ^ 32)
+unfolding blockOf
+size-shift t typed =
+    let e : (1 * 2 ^ (2 * (t - 3))) % 2 ^ 32 ≡ blockOf t = six (λ t. (1 * 2 ^ (2 * (t - 3))) % 2 ^ 32 ≡ blockOf t) refl refl refl refl refl refl t typed in
+    (e, subst Block (sym e) (block-of t typed))

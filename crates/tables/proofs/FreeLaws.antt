@@ -22,32 +22,6 @@ use Rattle.tables.specs.Rules.R4.{Own, FreeChain}
 use Rattle.tables.proofs.ChainLaws.{walk-once}
 use Rattle.tables.proofs.MetLaws.{up, marked-here, marked-still, marked-before, says-marked}
 
--- ---- zeros, four bytes at a time
-
-four-zero : (t : List ℕ) (o : ℕ) → u32At t o ≡ 0 → (i : ℕ) → i < 4 → getD t (o + i) 0 ≡ 0
-unfolding u32At
-four-zero t o e zero h = rw add-zero (omega arith)
-four-zero t o e (suc zero) h = omega arith
-four-zero t o e (suc (suc zero)) h = omega arith
-four-zero t o e (suc (suc (suc zero))) h = omega arith
-four-zero t o e (suc (suc (suc (suc i)))) h = absurd (omega arith)
-
-zero-four : (t : List ℕ) (o : ℕ) → getD t o 0 ≡ 0 → getD t (o + 1) 0 ≡ 0 → getD t (o + 2) 0 ≡ 0 → getD t (o + 3) 0 ≡ 0 → u32At t o ≡ 0
-unfolding u32At
-zero-four t o a b c d = omega arith
-
-pub blank-stop : (t : List ℕ) (k w : ℕ) → k < 30 → w ≡ u32At t (4 + 4 * k) → (w ≡ 0 → ⊥) → AllBytes t 4 120 0 → ⊥
-blank-stop t k w l e ne all = ne (e ∙ zero-four t (4 + 4 * k) (all (4 * k) (omega arith)) (byte 1 (omega arith)) (byte 2 (omega arith)) (byte 3 (omega arith)))
-  where
-    byte : (j : ℕ) → j < 4 → getD t (4 + 4 * k + j) 0 ≡ 0
-    byte j h = let q : 4 + 4 * k + j ≡ 4 + (4 * k + j) = omega arith in rw q (all (4 * k + j) (omega arith))
-
-pub blank-more : (t : List ℕ) (k w : ℕ) → w ≡ u32At t (4 + 4 * k) → w ≡ 0 → AllBytes t 4 (4 * k) 0 → AllBytes t 4 (4 * (k + 1)) 0
-blank-more t k w e z all j l = elim (decLt j (4 * k)) [ yes h ↦ all j h | no h ↦ (let q : 4 + j ≡ 4 + 4 * k + (j - 4 * k) = omega arith in rw q (four-zero t (4 + 4 * k) (sym e ∙ z) (j - 4 * k) (omega arith))) ]
-
-pub blank-end : (t : List ℕ) (k : ℕ) → 30 ≤ k → AllBytes t 4 (4 * k) 0 → AllBytes t 4 120 0
-blank-end t k h all j l = all j (omega arith)
-
 -- ---- a table's own bytes
 
 module _ (v : View) (i : ℕ) (t : List ℕ) (w : ℕ) (et : t ≡ v .table i) (ew : w ≡ wordOf t) where

@@ -26,3 +26,9 @@ pub mod CountLaws
 pub mod SurveyLaws
 pub mod PieceLaws
 pub mod MarkLaws
+pub mod CountsLaws
+pub mod CountCards
+pub mod LackLaws
+pub mod ChoiceLaws
+pub mod RoomLaws
+pub mod RoomWorked

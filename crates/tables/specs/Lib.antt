@@ -23,3 +23,5 @@ pub mod Met
 pub mod Counted
 pub mod Surveys
 pub mod Marks
+pub mod Counts
+pub mod Room

@@ -8,14 +8,7 @@ pub fn block_sectors(t: u32) -> u32
     requires { ⌜ Typed t ⌝ }
     ensures { λ r. ⌜ (r ≡ blockOf t) × Block r ⌝ }
 {
-    match t {
-        3 => 1,
-        4 => 4,
-        5 => 16,
-        6 => 64,
-        7 => 256,
-        _ => 1024,
-    }
+    1 << (2 * (t - 3))
 }
 
 // The blocks of a zone of type t.

@@ -1,6 +1,7 @@
 // The lower part: the volume's tables, read and examined. Knows bytes only through the crate field.
 pub mod blocks;
 pub mod check;
+pub mod counts;
 pub mod date;
 pub mod entry;
 pub mod finding;
@@ -10,6 +11,7 @@ pub mod kinds;
 pub mod name;
 pub mod open;
 pub mod places;
+pub mod room;
 pub mod rules;
 pub mod sector;
 pub mod sector0;

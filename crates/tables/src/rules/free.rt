@@ -4,32 +4,16 @@ use crate::index;
 use crate::kinds::Index;
 use crate::places::Places;
 use crate::sector1;
-use field::numbers::get_u32;
+use field::parts::bytes_all;
 ghost use mathlib.Core.Path.{_≡_};
 ghost use Prim.Native.Nat.{ℕ, _+_, _≤_};
 ghost use lib.ListN.{length};
 ghost use Rattle.field.specs.Says.{Says};
-ghost use Rattle.field.specs.Parts.{AllBytes};
 ghost use Rattle.tables.specs.Places.{Layout};
 ghost use Rattle.tables.specs.Findings.{Each, Finds};
 ghost use Rattle.tables.specs.Views.{viewOf, Free};
 ghost use Rattle.tables.specs.Met.{FreeMet};
 ghost use Rattle.tables.specs.Rules.R4.{Own, FreeChain};
-
-// Are the bytes of a free table zero between its word and its link? Four at a time: a new volume is free tables all over.
-fn blank(t: &[u8]) -> bool
-    requires { ⌜ length (now t) ≡ 128 ⌝ }
-    ensures { λ r. ⌜ Says r (AllBytes (now (t .entry)) 4 120 0) ⌝ }
-{
-    let mut k: usize = 0;
-    while k < 30 {
-        if get_u32(t, 4 + 4 * k) != 0 {
-            return false;
-        }
-        k += 1;
-    }
-    true
-}
 
 // Does table i begin with 0 (then zeros follow), i or -i?
 fn own(b: &[u8], p: Places, i: Index) -> bool
@@ -40,7 +24,7 @@ fn own(b: &[u8], p: Places, i: Index) -> bool
     let t = index::table(b, p, i);
     let word = index::first_word(t);
     if word == 0 {
-        return blank(t);
+        return bytes_all(t, 4, 120, 0);
     }
     if word == i.0 {
         return true;

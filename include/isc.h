@@ -1,0 +1,48 @@
+/* The volume manager of an IS&C volume, version 1.0: what the box's firmware links with libisc.a.
+
+   Every function returns a number, 0 for done; the others say why the request was refused:
+     1 books not S x 1,024 bytes, S from 5 to 1,024     2 wrong mark or version
+     3 sizes not allowed, or tables out of place        4 another book rule broken
+     5 not mounted                                      6 mounted already
+     7 an argument not allowed here
+   A refusal alters no lent byte, and a value beside it is 0. A slice is a pointer and a length in
+   elements; an empty slice has a pointer that isn't null. Slices that are lent at the same time must
+   not overlap. A date is the six bytes as they stand on the volume. */
+#ifndef ISC_H
+#define ISC_H
+
+#include <stddef.h>
+#include <stdint.h>
+
+#ifdef __cplusplus
+extern "C" {
+#endif
+
+/* Makes fresh books, whatever stood there: 1, 3 or 7. */
+uint32_t isc_format(uint8_t *books, size_t books_len,
+                    int32_t zones, int32_t indexes,
+                    const uint8_t *application, size_t application_len,
+                    const uint8_t *volume_name, size_t volume_name_len,
+                    uint32_t volume_id,
+                    const uint8_t *owner, size_t owner_len,
+                    const uint8_t *owner_code, size_t owner_code_len,
+                    const uint8_t *date, size_t date_len);
+
+/* Change the volume flag only: 1 to 4, then 6; 1 to 5. */
+uint32_t isc_mount(uint8_t *books, size_t books_len);
+uint32_t isc_dismount(uint8_t *books, size_t books_len);
+
+/* The volume's sectors, and how many of them are in use: 1 to 5. */
+uint32_t isc_space(const uint8_t *books, size_t books_len, uint32_t *sectors, uint32_t *used);
+
+/* Writes the report's lines, or the line `refused=` with a number, at the start of text and answers
+   their length. A text of less than 192 bytes is refused as 7 before anything else is examined;
+   otherwise the number is 0: the books' own refusal is in the text. */
+uint32_t isc_report(const uint8_t *books, size_t books_len,
+                    uint8_t *text, size_t text_len, uint32_t *length);
+
+#ifdef __cplusplus
+}
+#endif
+
+#endif

@@ -4,3 +4,4 @@ pub mod RequestLaws
 pub mod MountLaws
 pub mod AmountLaws
 pub mod FormatRequestLaws
+pub mod MountKeeps

@@ -32,3 +32,5 @@ pub mod LackLaws
 pub mod ChoiceLaws
 pub mod RoomLaws
 pub mod RoomWorked
+pub mod SameLaws
+pub mod FrameLaws

@@ -25,3 +25,4 @@ pub mod Surveys
 pub mod Marks
 pub mod Counts
 pub mod Room
+pub mod Same

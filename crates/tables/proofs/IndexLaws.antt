@@ -5,8 +5,9 @@ use native.Mathlib.Decide.{ℕ-discrete}
 use native.Mathlib.Omega.{arith}
 use borrow.Author.Tests.{eq-eqb, ne-eqb}
 use mathlib.Core.List.{List}
-use lib.ListN.{length, take, drop, length-drop}
+use lib.ListN.{length, getD, take, drop, length-drop}
 use lib.Seq.{length-take-le}
+use Rattle.field.specs.Numbers.{u16At, u32At}
 use Rattle.tables.specs.declared.kinds.Index.{Index}
 use Rattle.tables.specs.declared.places.Places.{Places}
 use Rattle.tables.specs.declared.entry.Kind.{Kind}
@@ -27,6 +28,11 @@ unfolding entryOf
 entry-is i t number parent link word len attribute kind n w p a k l h =
     let q : kind ≡ kindOf i (wordOf t) (parentOf t) (attributeOf t) = k ∙ rw (w, p, a) in
     rw (q, a, l, ← n, ← h)
+
+-- four bytes, by halves
+pub halves : (t : List ℕ) (o low high : ℕ) → low ≡ u16At t (o + 2) → high ≡ u16At t o → low + high * 65536 ≡ u32At t o
+unfolding u16At u32At
+halves t o low high l h = (let e : getD t (o + 2 + 1) 0 ≡ getD t (o + 3) 0 = ap (λ (n : ℕ). getD t n 0) (let g : o + 2 + 1 ≡ o + 3 = omega arith in g) in omega arith)
 
 -- ---- the places for pointers, by what the table begins with
 

@@ -16,7 +16,7 @@ use Rattle.field.specs.Says.{Says}
 use Rattle.field.specs.Sum.{sumTo}
 use Rattle.field.specs.Numbers.{u16At, u32At}
 use Rattle.field.proofs.Sums.{sum-more}
-use Rattle.field.proofs.Tests.{says-map, passed, refused}
+use Rattle.field.proofs.Tests.{says-map, says-eq, passed, refused}
 use Rattle.field.proofs.NumberLaws.{getD-zeros}
 use Rattle.tables.specs.declared.places.Places.{Places}
 use Rattle.tables.specs.declared.index.Pointer.{Pointer}
@@ -145,6 +145,16 @@ module _ (p : Places) (b : List ℕ) (a c ty : ℕ) where
     where
       at : (s : ℕ) → s < a + c → a ≤ s → zoneOf s ≡ z → ⊥
       at s l h d = ne (ap (λ (x : ZoneEntry). x .ztype) r ∙ (rw d at (all s l h)))
+
+  -- a run within one zone
+  pub run-one : (z last : ℕ) (e : ZoneEntry) → (c ≡ 0 → ⊥) → z ≡ zoneOf a → last ≡ zoneOf (a + (c - 1)) → z ≡ last → e ≡ zoneAt p b z → Says (eqb (e .ztype) ty) (RunType (viewOf p b) a c ty)
+  run-one z last e nz x y d r =
+      let q : e .ztype ≡ zoneAt p b (zoneOf a) .ztype = ap (λ (n : ZoneEntry). n .ztype) r ∙ ap (λ (n : ℕ). zoneAt p b n .ztype) x in
+      says-eq
+      (e .ztype)
+      ty
+      (λ t s l h. ap (λ (n : ℕ). zoneAt p b n .ztype) (let g : zoneOf s ≡ zoneOf a = omega arith in g) ∙ sym q ∙ t)
+      (λ all. q ∙ all a (omega arith) (omega arith))
 
   pub run-more : (z : ℕ) (e : ZoneEntry) → Each (λ z. zoneAt p b z .ztype ≡ ty) (zoneOf a) z → e ≡ zoneAt p b z → e .ztype ≡ ty → Each (λ z. zoneAt p b z .ztype ≡ ty) (zoneOf a) (z + 1)
   run-more z e each r q = below-more _ _ each (λ h. ap (λ (x : ZoneEntry). x .ztype) (sym r) ∙ q)

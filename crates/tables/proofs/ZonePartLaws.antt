@@ -1,22 +1,22 @@
 -- Runs by zones: a run's part in a zone is whole blocks exactly where its edges are edges of blocks, and a run is lawful exactly where its
 -- part in each zone that it meets is. Assumes nothing.
-use mathlib.Core.Path.{_≡_, sym, ap, _∙_}
+use mathlib.Core.Path.{_≡_, refl, sym, ap, _∙_}
 use mathlib.Core.Logic.{_⊎_, inl, inr}
 use mathlib.Core.Bool.{Bool, true, false, not}
 use Prim.Native.Nat.{ℕ, _+_, _-_, _*_, _/_, _%_, _≤_, _<_}
-use native.Mathlib.Nat.{mul-le-mul-right, div-add-mod', mod-lt}
+use native.Mathlib.Nat.{mul-le-mul-right, mul-assoc, div-add-mod', mod-lt, zero-mod, add-mul-mod-self-right}
 use native.Mathlib.Decide.{decLt, ℕ-discrete}
 use native.Mathlib.Omega.{arith}
 use lib.Dec.{eqb}
 use Rattle.field.specs.Says.{Says}
-use Rattle.field.proofs.Tests.{refused, says-map, says-eq}
+use Rattle.field.proofs.Tests.{passed, refused, says-map, says-eq}
 use Rattle.tables.specs.declared.zone.ZoneEntry.{ZoneEntry}
 use Rattle.tables.specs.Kinds.{zoneOf, firstOf}
 use Rattle.tables.specs.Blocks.{Typed, blockOf, Block, Whole}
 use Rattle.tables.specs.Findings.{Each}
 use Rattle.tables.specs.Views.{View, cov}
 use Rattle.tables.specs.Rules.R6.{Run}
-use Rattle.tables.specs.ZoneParts.{Inside, Meets, Cut, Part, Parts}
+use Rattle.tables.specs.ZoneParts.{Inside, Lone, Meets, Edge, Part, Parts}
 use Rattle.tables.proofs.BlockLaws.{block-of, block-end, block-in}
 use Rattle.tables.proofs.FindingLaws.{each-more}
 use Rattle.tables.proofs.PointerLaws.{cov-in, cov-before, cov-after}
@@ -92,14 +92,67 @@ module _ (a c from size : ℕ) (b : Block size) (m : Meets a c from) where
           ]
 
   -- what the code finds: the run begins at no edge; else where it ends decides
-  pub head-cut : (x : ℕ) → x ≡ a - from → (x % size ≡ 0 → ⊥) → Whole (cov a c) from size → ⊥
-  head-cut x q ne w = ne (rw q (head-edge w))
+  pub head-cut : (r : Bool) → Says r ((a - from) % size ≡ 0) → not r ≡ true → Whole (cov a c) from size → ⊥
+  head-cut r s n w = refused r s n (head-edge w)
 
-  pub tail-says : (x y : ℕ) → x ≡ a - from → x % size ≡ 0 → Cut (a + c - from) y → Says (eqb (y % size) 0) (Whole (cov a c) from size)
-  tail-says x y q e (inl (few, is)) =
-      says-eq (y % size) 0 (λ t. whole-by (rw q at e) (λ k l j lj lt. edge-side (a + c - from) size k j (rw is at t) lj lt)) (λ w. rw is (tail-edge w few))
-  tail-says x y q e (inr (far, is)) =
-      says-eq (y % size) 0 (λ t. whole-by (rw q at e) (λ k l j lj lt. omega (arith, block-in k size b l))) (λ w. rw is (zone-edge size b))
+  pub tail-says : (r₁ r₂ : Bool) → Says r₁ ((a - from) % size ≡ 0) → not r₁ ≡ false → Says r₂ (Edge (a + c) from size) → Says r₂ (Whole (cov a c) from size)
+  tail-says r₁ r₂ s n = says-map r₂ to of
+    where
+      to : Edge (a + c) from size → Whole (cov a c) from size
+      to (inl far) = whole-by (passed r₁ s n) (λ k l j lj lt. omega (arith, block-in k size b l))
+      to (inr e) = whole-by (passed r₁ s n) (λ k l j lj lt. edge-side (a + c - from) size k j e lj lt)
+
+      of : Whole (cov a c) from size → Edge (a + c) from size
+      of w = elim (decLt (a + c) (from + 1024)) [ yes l ↦ inr (tail-edge w (omega arith)) | no l ↦ inl (omega arith) ]
+
+-- a zone begins at an edge, so a sector may be counted from 0 on
+slip : (n from size : ℕ) → Block size → from % 1024 ≡ 0 → from ≤ n → (n - from) % size ≡ n % size
+slip n from size b e l =
+    let y : n - from + from / 1024 * (1024 / size) * size ≡ n = omega (arith, mul-assoc (from / 1024) (1024 / size) size, ap (λ (m : ℕ). from / 1024 * m) (b .whole)) in
+    sym (add-mul-mod-self-right (n - from) (from / 1024 * (1024 / size)) size) ∙ ap (λ (m : ℕ). m % size) y
+
+-- the ways out of the tests of the two edges
+module _ (n from size : ℕ) (b : Block size) (e : from % 1024 ≡ 0) where
+  pub head-none : n ≤ from → (n - from) % size ≡ 0
+  head-none l = (let z : n - from ≡ 0 = omega arith in rw z (zero-mod size))
+
+  pub head-here : from < n → Says (eqb (n % size) 0) ((n - from) % size ≡ 0)
+  head-here l = says-eq (n % size) 0 (λ t. slip n from size b e (omega arith) ∙ t) (λ t. sym (slip n from size b e (omega arith)) ∙ t)
+
+  pub tail-far : from + 1024 ≤ n → Edge n from size
+  tail-far l = inl l
+
+  pub tail-here : from < n → n < from + 1024 → Says (eqb (n % size) 0) (Edge n from size)
+  tail-here l h = says-eq (n % size) 0 (λ t. inr (slip n from size b e (omega arith) ∙ t)) of
+    where
+      of : Edge n from size → n % size ≡ 0
+      of (inl far) = absurd (omega arith)
+      of (inr t) = sym (slip n from size b e (omega arith)) ∙ t
+
+-- a run within one zone: the zone begins at an edge, so the run's own numbers decide
+module _ (a c size : ℕ) (b : Block size) (h : Lone a c) where
+  lone-meets : Meets a c (firstOf (zoneOf a))
+  lone-meets = record { some = h .some; low = omega arith; high = omega (arith, h .some) }
+
+  lone-head : (a - firstOf (zoneOf a)) % size ≡ a % size
+  lone-head = slip a (firstOf (zoneOf a)) size b (omega arith) (omega arith)
+
+  lone-tail : a % size ≡ 0 → (a + c - firstOf (zoneOf a)) % size ≡ c % size
+  lone-tail e =
+      let z : (a - firstOf (zoneOf a)) % size ≡ 0 = lone-head ∙ e in
+      let y : c + (a - firstOf (zoneOf a)) / size * size ≡ a + c - firstOf (zoneOf a) = omega (arith, div-add-mod' (a - firstOf (zoneOf a)) size) in
+      sym (ap (λ (n : ℕ). n % size) y) ∙ add-mul-mod-self-right c ((a - firstOf (zoneOf a)) / size) size
+
+  pub lone-cut : (a % size ≡ 0 → ⊥) → Whole (cov a c) (firstOf (zoneOf a)) size → ⊥
+  lone-cut ne w = ne (sym lone-head ∙ head-edge a c (firstOf (zoneOf a)) size b lone-meets w)
+
+  pub lone-says : a % size ≡ 0 → Says (eqb (c % size) 0) (Whole (cov a c) (firstOf (zoneOf a)) size)
+  lone-says e =
+      says-eq
+      (c % size)
+      0
+      (λ t. whole-by a c (firstOf (zoneOf a)) size b lone-meets (lone-head ∙ e) (λ k l j lj lt. edge-side (a + c - firstOf (zoneOf a)) size k j (lone-tail e ∙ t) lj lt))
+      (λ w. sym (lone-tail e) ∙ tail-edge a c (firstOf (zoneOf a)) size b lone-meets w (omega (arith, h .one)))
 
 -- ---- a zone's entry
 
@@ -115,6 +168,17 @@ module _ (v : View) (a c z : ℕ) (e : ZoneEntry) (at : e ≡ v .zone z) where
       let q : e .ztype ≡ v .zone z .ztype = ap (λ (x : ZoneEntry). x .ztype) at in
       let g : size ≡ blockOf (v .zone z .ztype) = s ∙ ap blockOf q in
       says-map r (λ w. record { typed = record { low = omega arith; high = omega arith }; whole = rw (← g, ← f) w }) (λ part. rw (g, f) (part .whole))
+
+-- the same where the entry is that of the zone of a run within one zone
+module _ (v : View) (a c z : ℕ) (e : ZoneEntry) (at : e ≡ v .zone z) (is : z ≡ zoneOf a) where
+  pub lone-low : e .ztype < 3 → Part v a c (zoneOf a) → ⊥
+  lone-low l part = part-low v a c (zoneOf a) e (rw is at at) l part
+
+  pub lone-high : 8 < e .ztype → Part v a c (zoneOf a) → ⊥
+  lone-high l part = part-high v a c (zoneOf a) e (rw is at at) l part
+
+  pub part-lone : (r : Bool) (size : ℕ) → 3 ≤ e .ztype → e .ztype ≤ 8 → size ≡ blockOf (e .ztype) → Says r (Whole (cov a c) (firstOf (zoneOf a)) size) → Says r (Part v a c (zoneOf a))
+  part-lone r size low high s = part-says v a c (zoneOf a) e (rw is at at) r (firstOf (zoneOf a)) size low high refl s
 
 -- ---- zones
 
@@ -166,3 +230,8 @@ module _ (v : View) (a c : ℕ) (i : Inside (v .zones) a c) (few : c ≤ 32767) 
   -- the zones that a run meets decide
   pub run-says : (r : Bool) → Says r (Parts v a c) → Says r (Run v a c)
   run-says r = says-map r parts-run run-parts
+
+  -- of a run within one zone, that zone
+  pub run-lone : (r : Bool) (last first : ℕ) → last ≡ zoneOf (a + c - 1) → first ≡ zoneOf a → last ≡ first → Says r (Part v a c (zoneOf a)) → Says r (Run v a c)
+  run-lone r last first x y q s =
+      run-says r (says-map r (λ (part : Part v a c (zoneOf a)) k l lo. rw (let e : k ≡ zoneOf a = omega arith in e) part) (λ parts. parts (zoneOf a) (omega arith) (omega arith)) s)

@@ -1,7 +1,7 @@
 -- A run of sectors by the zones it meets: what rule R6 says of a run, zone by zone.
 use mathlib.Core.Path.{_≡_}
 use mathlib.Core.Logic.{_⊎_}
-use Prim.Native.Nat.{ℕ, _+_, _-_, _*_, _≤_, _<_}
+use Prim.Native.Nat.{ℕ, _+_, _-_, _*_, _%_, _≤_, _<_}
 use Rattle.tables.specs.Kinds.{zoneOf, firstOf}
 use Rattle.tables.specs.Blocks.{Typed, blockOf, Whole}
 use Rattle.tables.specs.Findings.{Each}
@@ -13,15 +13,20 @@ pub record Inside (zones a c : ℕ) : Type 0 where
   pub low : 1024 ≤ a
   pub high : a + c ≤ 1024 * (zones - 1)
 
+-- they lie in one zone
+pub record Lone (a c : ℕ) : Type 0 where
+  pub some : 1 ≤ c
+  pub one : a % 1024 + c ≤ 1024
+
 -- one of them at least lies in the zone whose first sector is `from`
 pub record Meets (a c from : ℕ) : Type 0 where
   pub some : 1 ≤ c
   pub low : a < from + 1024
   pub high : from < a + c
 
--- r is n, but no more than a zone has sectors
-abbrev pub Cut : ℕ → ℕ → Type 0
-Cut n r = ((n ≤ 1024) × (r ≡ n)) ⊎ ((1024 < n) × (r ≡ 1024))
+-- before sector `end` an edge of the blocks of the zone whose first sector is `from`, or the zone's end
+abbrev pub Edge : ℕ → ℕ → ℕ → Type 0
+Edge end from size = (from + 1024 ≤ end) ⊎ ((end - from) % size ≡ 0)
 
 -- "lies in zones of type 3-8; its part in each zone is whole blocks", of zone z
 pub record Part (v : View) (a c z : ℕ) : Type 0 where

@@ -7,6 +7,7 @@ use field::numbers::get_u32;
 ghost use mathlib.Core.Path.{_≡_};
 ghost use Prim.Native.Nat.{_+_, _*_, _≤_, _<_};
 ghost use lib.ListN.{length};
+ghost use Rattle.field.specs.Numbers.{u32At};
 ghost use Rattle.tables.specs.Places.{Layout};
 ghost use Rattle.tables.specs.Indexes.{tableAt, wordOf, parentOf, nameOf, createdOf, changedOf, lengthOf, attributeOf, linkOf, pointerAt, slotsOf, baseOf, fileOf};
 
@@ -83,6 +84,15 @@ pub fn attribute(t: &[u8]) -> u32
     get_u16(t, 44)
 }
 
+// A pointer's start, the lower half first: the parts of the number that are used are then read as halves, not byte by byte.
+fn start_at(t: &[u8], at: usize) -> u32
+    requires { ⌜ at + 4 ≤ length (now t) ⌝ }
+    ensures { λ r. ⌜ r ≡ u32At (now (t .entry)) at ⌝ }
+{
+    let low = get_u16(t, at + 2);
+    low + get_u16(t, at) * 65536
+}
+
 // The pointer whose six bytes begin at `at`: a parent's header at 58, its ten from 64 on, a child's seventeen from 22 on.
 pub fn pointer_at(t: &[u8], at: usize) -> Pointer
     requires { ⌜ length (now t) ≡ 128 ⌝ }
@@ -90,7 +100,7 @@ pub fn pointer_at(t: &[u8], at: usize) -> Pointer
     ensures { λ r. ⌜ (r ≡ pointerAt (now (t .entry)) at) × (r .count < 65536) ⌝ }
 {
     Pointer {
-        start: Sector(get_u32(t, at)),
+        start: Sector(start_at(t, at)),
         count: get_u16(t, at + 4),
     }
 }

@@ -89,6 +89,9 @@ fn run_type(b: &[u8], p: Places, a: u32, c: u32, ty: u32) -> bool
     }
     let last = zone_of(Sector(a + (c - 1))).0;
     let mut z = zone_of(Sector(a)).0;
+    if z == last {
+        return zone_entry(b, p, Zone(z)).ztype == ty;
+    }
     while z <= last {
         if zone_entry(b, p, Zone(z)).ztype != ty {
             return false;

@@ -12,50 +12,56 @@ use crate::places::Places;
 use crate::zone::zone_entry;
 use field::parts::bytes_all;
 ghost use mathlib.Core.Path.{_≡_};
-ghost use Prim.Native.Nat.{_+_, _-_, _*_, _≤_, _<_};
+ghost use Prim.Native.Nat.{_+_, _-_, _*_, _%_, _≤_, _<_};
 ghost use lib.ListN.{length};
 ghost use Rattle.field.specs.Says.{Says};
-ghost use Rattle.tables.specs.Kinds.{firstOf};
+ghost use Rattle.tables.specs.Kinds.{zoneOf, firstOf};
 ghost use Rattle.tables.specs.Blocks.{Block, Whole};
 ghost use Rattle.tables.specs.Places.{Layout};
 ghost use Rattle.tables.specs.Findings.{Finds};
 ghost use Rattle.tables.specs.Views.{viewOf, cov};
 ghost use Rattle.tables.specs.Rules.R6.{Run, PointerLaw};
-ghost use Rattle.tables.specs.ZoneParts.{Inside, Meets, Cut, Part, Parts};
+ghost use Rattle.tables.specs.ZoneParts.{Inside, Lone, Meets, Edge, Part, Parts};
 ghost use Rattle.tables.specs.Slots.{Slots, Heads};
 
-// How far sector s stands behind a zone's first sector; 0 if it does not.
-fn first_edge(s: u32, first: u32) -> u32
-    ensures { λ r. ⌜ r ≡ s - first ⌝ }
+// Does a run from `start` on begin at an edge of the zone's blocks, or before the zone? The zone begins at an edge, so no sector is counted
+// from its first one.
+fn head_whole(start: u32, first: u32, size: u32) -> bool
+    requires { ⌜ Block size ⌝ }
+    requires { ⌜ first % 1024 ≡ 0 ⌝ }
+    ensures { λ r. ⌜ Says r ((start - first) % size ≡ 0) ⌝ }
 {
-    if s < first {
-        return 0;
+    if start <= first {
+        return true;
     }
-    s - first
+    start % size == 0
 }
 
-// The same of the sector behind a run; 1024 if the run goes on behind the zone.
-fn last_edge(s: u32, first: u32) -> u32
-    requires { ⌜ first ≤ s ⌝ }
-    ensures { λ r. ⌜ Cut (s - first) r ⌝ }
+// Does a run that ends before sector `end` end at such an edge, or behind the zone?
+fn tail_whole(end: u32, first: u32, size: u32) -> bool
+    requires { ⌜ Block size ⌝ }
+    requires { ⌜ first % 1024 ≡ 0 ⌝ }
+    requires { ⌜ (first < end) × (end ≤ 262144) ⌝ }
+    ensures { λ r. ⌜ Says r (Edge end first size) ⌝ }
 {
-    if s - first > 1024 {
-        return 1024;
+    if first + 1024 <= end {
+        return true;
     }
-    s - first
+    end % size == 0
 }
 
-// Is the run's part in the zone from `first` on made of whole blocks? Both its edges are edges of blocks then.
+// Is the run's part in the zone from `first` on made of whole blocks?
 fn edges_whole(start: u32, count: u32, first: u32, size: u32) -> bool
     requires { ⌜ Block size ⌝ }
+    requires { ⌜ first % 1024 ≡ 0 ⌝ }
     requires { ⌜ Meets start count first ⌝ }
     requires { ⌜ start + count ≤ 262144 ⌝ }
     ensures { λ r. ⌜ Says r (Whole (cov start count) first size) ⌝ }
 {
-    if first_edge(start, first) % size != 0 {
+    if !head_whole(start, first, size) {
         return false;
     }
-    last_edge(start + count, first) % size == 0
+    tail_whole(start + count, first, size)
 }
 
 // Is the run's part in zone z lawful?
@@ -73,6 +79,35 @@ fn part_valid(b: &[u8], p: Places, start: u32, count: u32, z: u32) -> bool
         return false;
     }
     edges_whole(start, count, first_sector(Zone(z)).0, block_sectors(t))
+}
+
+// Is a run within one zone made of whole blocks?
+fn lone_whole(start: u32, count: u32, size: u32) -> bool
+    requires { ⌜ Block size ⌝ }
+    requires { ⌜ Lone start count ⌝ }
+    ensures { λ r. ⌜ Says r (Whole (cov start count) (firstOf (zoneOf start)) size) ⌝ }
+{
+    if start % size != 0 {
+        return false;
+    }
+    count % size == 0
+}
+
+// Is a run within one zone lawful there? Most runs are such.
+fn lone_valid(b: &[u8], p: Places, start: u32, count: u32) -> bool
+    requires { ⌜ Layout p (length (now b)) ⌝ }
+    requires { ⌜ Inside (p .zones) start count ⌝ }
+    requires { ⌜ Lone start count ⌝ }
+    ensures { λ r. ⌜ Says r (Part (viewOf p (now (b .entry))) start count (zoneOf start)) ⌝ }
+{
+    let t = zone_entry(b, p, zone_of(Sector(start))).ztype;
+    if t < 3 {
+        return false;
+    }
+    if t > 8 {
+        return false;
+    }
+    lone_whole(start, count, block_sectors(t))
 }
 
 // Is its part in each zone that it meets?
@@ -112,6 +147,9 @@ fn run_valid(b: &[u8], p: Places, start: u32, count: u32) -> bool
     }
     if start + count > end {
         return false;
+    }
+    if zone_of(Sector(start + count - 1)).0 == zone_of(Sector(start)).0 {
+        return lone_valid(b, p, start, count);
     }
     parts_valid(b, p, start, count)
 }

@@ -1,11 +1,10 @@
-use Rattle.tables.proofs.SurveyLaws.{run-more}
 use Prim.Native.Nat.{_≤_, _-_, _+_}
 use mathlib.Core.Path.{_≡_}
 use native.Mathlib.Omega.{arith}
 use Rattle.tables.specs.Zones.{zoneAt}
 use Rattle.tables.specs.Kinds.{zoneOf}
 use Rattle.tables.specs.Findings.{Each}
-use Rattle.tables.proofs.SurveyLaws.{run-none, run-not, run-all}
+use Rattle.tables.proofs.SurveyLaws.{run-none, run-one, run-not, run-more, run-all}
 use borrow.Author.Needs.{needs}
 use Rattle.tables.proofs.rules.files.run_type.Statement.{statement}
 use Rattle.tables.proofs.rules.files.run_type.Tie as tie
@@ -27,6 +26,8 @@ run-type-spec =
     (λ c. search needs)
     (λ c κs. search needs)
     (λ c κs. search needs)
+    (λ c κs. search needs)
+    (λ c. search run-one)
     (λ c. (search needs, search needs, λ k l h. absurd (omega arith)))
     (λ c κs. search needs)
     (λ c. search run-not)

@@ -5,12 +5,4 @@ use Rattle.tables.proofs.rules.pointers.edges_whole.Tie as tie
 
 pub edges-whole-spec : {M : Type 1} → statement M
 edges-whole-spec =
-    tie.close
-    (tie.spec
-    (λ c κs. search needs)
-    (λ c. search needs)
-    (λ c. search head-cut)
-    (λ c. search needs)
-    (λ c κs. search needs)
-    (λ c. search needs)
-    (λ c. search tail-says))
+    tie.close (tie.spec (λ c κs. search needs) (λ c. search head-cut) (λ c. search needs) (λ c κs. search needs) (λ c. search tail-says))

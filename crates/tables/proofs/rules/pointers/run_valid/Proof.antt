@@ -1,4 +1,4 @@
-use Rattle.tables.proofs.ZonePartLaws.{run-says}
+use Rattle.tables.proofs.ZonePartLaws.{run-says, run-lone}
 use borrow.Author.Needs.{needs}
 use Rattle.tables.proofs.rules.pointers.run_valid.Statement.{statement}
 use Rattle.tables.proofs.rules.pointers.run_valid.Tie as tie
@@ -15,5 +15,11 @@ run-valid-spec =
     (λ c. search needs)
     (λ c. search needs)
     (λ c. search needs)
+    (λ c. search needs)
+    (λ c. search needs)
+    (λ c κs. search needs)
+    (λ c κs. search needs)
+    (λ c κs. search needs)
+    (λ c. search (run-lone, needs))
     (λ c κs. search needs)
     (λ c. search (run-says, needs)))

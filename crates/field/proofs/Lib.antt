@@ -5,3 +5,4 @@ pub mod NumberLaws
 pub mod BitLaws
 pub mod RunLaws
 pub mod PartLaws
+pub mod ByteLaws

@@ -70,7 +70,7 @@ module _ (b : List ℕ) (base from v : ℕ) (hv : v < 2) where
 -- ---- a byte by its bits
 
 -- numbers are the same below 2 ^ n where their bits are
-low-same : (n x y : ℕ) → ((k : ℕ) → k < n → bitOf x k ≡ bitOf y k) → x % 2 ^ n ≡ y % 2 ^ n
+pub low-same : (n x y : ℕ) → ((k : ℕ) → k < n → bitOf x k ≡ bitOf y k) → x % 2 ^ n ≡ y % 2 ^ n
 unfolding bitOf
 low-same zero x y h = omega arith
 low-same (suc n) x y h =

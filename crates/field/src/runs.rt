@@ -2,8 +2,9 @@
 use crate::bits::get_bit;
 use crate::bits::put_bit;
 use crate::numbers::wide;
+use crate::parts::bytes_all;
 ghost use mathlib.Core.Path.{_≡_};
-ghost use Prim.Native.Nat.{_+_, _*_, _≤_, _<_};
+ghost use Prim.Native.Nat.{_+_, _*_, _%_, _≤_, _<_};
 ghost use lib.ListN.{length};
 ghost use Rattle.field.specs.Says.{Says};
 ghost use Rattle.field.specs.Runs.{Room, Step, Width, AllBits, setBits, countBits};
@@ -58,8 +59,8 @@ fn count_step(s: &[u8], base: usize, at: usize, w: usize) -> u32
     get_bit(s, base, at)
 }
 
-// Are the `count` bits from `from` on all v?
-pub fn bits_all(s: &[u8], base: usize, from: usize, count: usize, v: u32) -> bool
+// Are the `count` bits from `from` on all v? Step by step, wherever the run begins and ends.
+fn bits_each(s: &[u8], base: usize, from: usize, count: usize, v: u32) -> bool
     requires { ⌜ Room (length (now s)) base from count ⌝ }
     requires { ⌜ v < 2 ⌝ }
     ensures { λ r. ⌜ Says r (AllBits (now (s .entry)) base from count v) ⌝ }
@@ -73,6 +74,18 @@ pub fn bits_all(s: &[u8], base: usize, from: usize, count: usize, v: u32) -> boo
         i += w;
     }
     true
+}
+
+// Are the `count` bits from `from` on all v? A run of whole bytes is tested byte by byte.
+pub fn bits_all(s: &[u8], base: usize, from: usize, count: usize, v: u32) -> bool
+    requires { ⌜ Room (length (now s)) base from count ⌝ }
+    requires { ⌜ v < 2 ⌝ }
+    ensures { λ r. ⌜ Says r (AllBits (now (s .entry)) base from count v) ⌝ }
+{
+    if from % 8 + count % 8 != 0 {
+        return bits_each(s, base, from, count, v);
+    }
+    bytes_all(s, base + from / 8, count / 8, (255 * v) as u8)
 }
 
 // Sets (v = 1) or clears (v = 0) the `count` bits from `from` on.
@@ -89,8 +102,8 @@ pub fn set_bits(s: &mut [u8], base: usize, from: usize, count: usize, v: u32)
     }
 }
 
-// How many of the `count` bits from `from` on are set?
-pub fn count_bits(s: &[u8], base: usize, from: usize, count: usize) -> u32
+// How many of the `count` bits from `from` on are set? Step by step, wherever the run begins and ends.
+fn count_each(s: &[u8], base: usize, from: usize, count: usize) -> u32
     requires { ⌜ Room (length (now s)) base from count ⌝ }
     ensures { λ r. ⌜ (r ≡ countBits (now (s .entry)) base from count) × (r ≤ count) ⌝ }
 {
@@ -102,4 +115,31 @@ pub fn count_bits(s: &[u8], base: usize, from: usize, count: usize) -> u32
         i += w;
     }
     n
+}
+
+// How many bits of n whole bytes are set?
+fn count_bytes(s: &[u8], base: usize, from: usize, bytes: usize) -> u32
+    requires { ⌜ Room (length (now s)) base from (8 * bytes) ⌝ }
+    requires { ⌜ from % 8 ≡ 0 ⌝ }
+    ensures { λ r. ⌜ (r ≡ countBits (now (s .entry)) base from (8 * bytes)) × (r ≤ 8 * bytes) ⌝ }
+{
+    let at = base + from / 8;
+    let mut n: u32 = 0;
+    let mut i: usize = 0;
+    while i < bytes {
+        n += u32::count_ones(wide(s[at + i]));
+        i += 1;
+    }
+    n
+}
+
+// How many of the `count` bits from `from` on are set? A run of whole bytes is counted byte by byte.
+pub fn count_bits(s: &[u8], base: usize, from: usize, count: usize) -> u32
+    requires { ⌜ Room (length (now s)) base from count ⌝ }
+    ensures { λ r. ⌜ (r ≡ countBits (now (s .entry)) base from count) × (r ≤ count) ⌝ }
+{
+    if from % 8 + count % 8 != 0 {
+        return count_each(s, base, from, count);
+    }
+    count_bytes(s, base, from, count / 8)
 }

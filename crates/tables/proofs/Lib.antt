@@ -19,7 +19,6 @@ pub mod FreshLaws
 pub mod FormatStepLaws
 pub mod FormatReadLaws
 pub mod FormatLaws
-pub mod ByteLaws
 pub mod WholeLaws
 pub mod ZoneLaws
 pub mod CountLaws

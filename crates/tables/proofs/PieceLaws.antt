@@ -13,6 +13,7 @@ use lib.Seq.{getD-set-same, getD-set-other}
 use lib.Pow.{pow-pos, pow-add, pow-mono, high, low, field, shr-shr, shr-lt, mod-pow-add, mod-mod-pow, ones-split, ones-lt}
 use Rattle.field.specs.Bits.{bitOf, withBit}
 use Rattle.field.proofs.BitLaws.{with-same, with-other, with-sum}
+use Rattle.field.proofs.RunLaws.{low-same}
 use Rattle.tables.specs.Views.{cov}
 use Rattle.tables.specs.Marks.{InWord, markAt, Adds}
 use Rattle.tables.proofs.PointerLaws.{cov-in, cov-before, cov-after}
@@ -51,15 +52,6 @@ bit-high h l k j small = ap (λ (n : ℕ). n % 2) (sym (shr-shr (h * 2 ^ k + l) 
 bit-none : (n j : ℕ) → n < 2 ^ j → bitOf n j ≡ 0
 unfolding bitOf
 bit-none n j l = ap (λ (m : ℕ). m % 2) (div-eq-of-lt l)
-
--- numbers are the same below 2 ^ n where their bits are
-low-same : (n x y : ℕ) → ((k : ℕ) → k < n → bitOf x k ≡ bitOf y k) → x % 2 ^ n ≡ y % 2 ^ n
-unfolding bitOf
-low-same zero x y h = omega arith
-low-same (suc n) x y h =
-    let cut : (z : ℕ) → z % 2 ^ suc n ≡ z / 2 ^ n % 2 * 2 ^ n + z % 2 ^ n
-    = λ z. ap (λ (m : ℕ). z % 2 ^ m) (let e : suc n ≡ 1 + n = omega arith in e) ∙ mod-pow-add z 1 n in
-    cut x ∙ ap₂ (λ (p q : ℕ). p * 2 ^ n + q) (h n (omega arith)) (low-same n x y (λ k l. h k (omega arith))) ∙ sym (cut y)
 
 pub word-same : (x y : ℕ) → x < 2 ^ 64 → y < 2 ^ 64 → ((k : ℕ) → k < 64 → bitOf x k ≡ bitOf y k) → x ≡ y
 word-same x y hx hy h = sym (mod-eq-of-lt hx) ∙ low-same 64 x y h ∙ mod-eq-of-lt hy

@@ -1,5 +1,4 @@
 // The nine book rules, examined. One function a rule over that rule's definition.
-pub mod bytes;
 pub mod children;
 pub mod counts;
 pub mod files;

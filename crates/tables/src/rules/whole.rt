@@ -1,8 +1,8 @@
 // Are the blocks of a zone whole: each of one bit throughout? Blocks of 16 sectors or more are tested a byte at a time, and blocks of
 // four sectors two at a time.
-use crate::rules::bytes::bits_are;
 use field::bits::get_bit;
 use field::numbers::wide;
+use field::runs::bits_all;
 ghost use mathlib.Core.Path.{_≡_};
 ghost use Prim.Native.Nat.{_+_, _%_};
 ghost use lib.ListN.{length};
@@ -18,7 +18,7 @@ fn block_whole(s: &[u8], base: usize, from: usize, size: usize) -> bool
     ensures { λ r. ⌜ Says r (AllBits (now (s .entry)) base from size (bitAt (now (s .entry)) base from)) ⌝ }
 {
     let v = get_bit(s, base, from);
-    bits_are(s, base, from, size, v)
+    bits_all(s, base, from, size, v)
 }
 
 // A block after the other.

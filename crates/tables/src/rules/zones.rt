@@ -3,11 +3,11 @@ use crate::blocks::block_sectors;
 use crate::finding::Finding;
 use crate::kinds::Zone;
 use crate::places::Places;
-use crate::rules::bytes::bits_are;
-use crate::rules::bytes::bits_set;
 use crate::rules::whole::blocks_whole;
 use crate::zone::ZoneEntry;
 use crate::zone::zone_entry;
+use field::runs::bits_all;
+use field::runs::count_bits;
 ghost use mathlib.Core.Logic.{_⊎_};
 ghost use Prim.Native.Nat.{_+_, _≤_, _<_};
 ghost use lib.ListN.{length};
@@ -39,7 +39,7 @@ fn zone_bits(b: &[u8], p: Places, z: Zone, w: u32) -> bool
     requires { ⌜ (1 ≤ z .0) × (z .0 ≤ p .zones) × (w < 2) ⌝ }
     ensures { λ r. ⌜ Says r (ZoneBits (viewOf p (now (b .entry))) (z .0) w) ⌝ }
 {
-    bits_are(b, p.sectortable, 1024 * (z.0 as usize - 1), 1024, w)
+    bits_all(b, p.sectortable, 1024 * (z.0 as usize - 1), 1024, w)
 }
 
 // The first zone and the last: free count -1, and every bit set.
@@ -113,7 +113,7 @@ fn zone_blocks(b: &[u8], p: Places, z: Zone, size: u32, free: u32) -> bool
     if !blocks_whole(b, p.sectortable, from, size as usize) {
         return false;
     }
-    (1024 - bits_set(b, p.sectortable, from)) / size == free
+    (1024 - count_bits(b, p.sectortable, from, 1024)) / size == free
 }
 
 fn block_law(b: &[u8], p: Places, z: Zone) -> bool

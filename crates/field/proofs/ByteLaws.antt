@@ -44,11 +44,14 @@ module _ (b : List ℕ) (base from : ℕ) where
       let m : ones x ≡ countBits b base (from + 8 * i) 8 = rw (is, ← e) (count-byte b base (from + 8 * i) (omega arith) (rw (is, ← e) at small)) in
       rw q at (count-next b base from (8 * i) 8 n (ones x) h m)
 
-  pub count-fits : (i n x : ℕ) → i < 128 → from % 8 ≡ 0 → n ≡ countBits b base from (8 * i) → x ≡ getD b (base + from / 8 + i) 0 → x < 256 → n + ones x ≤ 1024
-  count-fits i n x l whole h is small = omega (arith, count-more i n x whole h is small, count-le b base from (8 * (i + 1)))
+  pub count-fits : (m i n x : ℕ) → i < m → from + 8 * m ≤ 262144 → from % 8 ≡ 0 → n ≡ countBits b base from (8 * i) → x ≡ getD b (base + from / 8 + i) 0 → x < 256 → n + ones x ≤ 262144
+  count-fits m i n x l most whole h is small = omega (arith, count-more i n x whole h is small, count-le b base from (8 * (i + 1)))
 
-  pub count-all : (i n : ℕ) → n ≡ countBits b base from (8 * i) → i ≤ 128 → 128 ≤ i → n ≡ countBits b base from 1024
-  count-all i n h l g = let e : 8 * i ≡ 1024 = omega arith in rw e at h
+  pub count-all : (m i n : ℕ) → n ≡ countBits b base from (8 * i) → i ≤ m → m ≤ i → n ≡ countBits b base from (8 * m)
+  count-all m i n h l g = let e : i ≡ m = omega arith in rw e at h
 
-  pub count-small : (i n : ℕ) → n ≡ countBits b base from (8 * i) → i ≤ 128 → n ≤ 1024
-  count-small i n h l = omega (arith, count-le b base from (8 * i))
+  pub count-small : (m i n : ℕ) → n ≡ countBits b base from (8 * i) → i ≤ m → n ≤ 8 * m
+  count-small m i n h l = omega (arith, count-le b base from (8 * i))
+
+  pub count-whole-bytes : (count r : ℕ) → from % 8 + count % 8 ≡ 0 → r ≡ countBits b base from (8 * (count / 8)) → r ≤ 8 * (count / 8) → (r ≡ countBits b base from count) × (r ≤ count)
+  count-whole-bytes count r whole h l = let e : 8 * (count / 8) ≡ count = omega arith in (rw e at h, omega arith)

@@ -1,7 +1,8 @@
 -- The C border: what a request answered, handed back by number, pointer and buffer. Assumes nothing.
-use mathlib.Core.Path.{_≡_, refl, ap, _∙_}
+use mathlib.Core.Path.{_≡_, refl, sym, ap, _∙_}
 use mathlib.Core.List.{List}
 use Prim.Native.Nat.{ℕ, _+_, _≤_, _<_}
+use native.Mathlib.Decide.{decLt}
 use native.Mathlib.Omega.{arith}
 use lib.ListN.{length, take}
 use lib.IntN.{ℤ}
@@ -13,7 +14,10 @@ use Rattle.requests.specs.declared.amount.Amount.{Amount}
 use Rattle.tables.specs.Format.{Label}
 use Rattle.requests.specs.Amounts.{amountOf}
 use Rattle.requests.specs.Format.{Formatted}
-use Rattle.requests.specs.Space.{Spaced}
+use Rattle.tables.specs.Books.{bookTests}
+use Rattle.tables.proofs.GateLaws.{gate-one}
+use Rattle.requests.specs.Space.{Spaced, numberOf, sectorsValue, usedValue}
+use Rattle.requests.proofs.MountLaws.{spaced-one}
 use Rattle.requests.specs.Report.{reportOf, Reported}
 use Rattle.requests.proofs.ReportLaws.{text-length, text-part}
 use Rattle.isc.specs.Border.{SpaceOut, Lines, ReportOut}
@@ -45,3 +49,23 @@ report-copies b text t l h = omega (arith, ap length (text-part (reportOf (h .nu
 -- signed arguments, taken apart
 pub format-border : (b b' : List ℕ) (x y : ℤ) (z n : Amount) (l : Label) (r : ℕ) → z ≡ amountOf x → n ≡ amountOf y → Formatted b z n l r b' → Formatted b (amountOf x) (amountOf y) l r b'
 format-border b b' x y z n l r e f h = rw (← e, ← f) h
+
+-- ---- one result
+
+pub space-one : (b : List ℕ) (r r' s s' u u' : ℕ) → SpaceOut b r s u → SpaceOut b r' s' u' → (r ≡ r') × (s ≡ s') × (u ≡ u')
+space-one b r r' s s' u u' h k =
+    let e : h .answer ≡ k .answer = spaced-one b (h .answer) (k .answer) (h .spaced) (k .spaced) in
+    (h .number ∙ ap numberOf e ∙ sym (k .number), h .all ∙ ap sectorsValue e ∙ sym (k .all), h .taken ∙ ap usedValue e ∙ sym (k .taken))
+
+lines-one : (b text : List ℕ) (r r' : ℕ) (t t' : List ℕ) (l l' : ℕ) → Lines b text r t l → Lines b text r' t' l' → (r ≡ r') × (t ≡ t') × (l ≡ l')
+lines-one b text r r' t t' l l' h k =
+    let e : h .number ≡ k .number = gate-one (bookTests b) (h .number) (k .number) (h .gate) (k .gate) in
+    let x : reportOf (h .number) b ≡ reportOf (k .number) b = ap (λ (n : ℕ). reportOf n b) e in
+    (h .zero ∙ sym (k .zero), h .bytes ∙ ap (over text 0) x ∙ sym (k .bytes), h .count ∙ ap length x ∙ sym (k .count))
+
+pub report-one : (b text : List ℕ) (r r' : ℕ) (t t' : List ℕ) (l l' : ℕ) → ReportOut b text r t l → ReportOut b text r' t' l' → (r ≡ r') × (t ≡ t') × (l ≡ l')
+report-one b text r r' t t' l l' h k =
+    elim (decLt (length text) 192) [
+      | yes s ↦ (let x = h .refused s in let y = k .refused s in (x .0 ∙ sym (y .0), x .1 ∙ sym (y .1), x .2 ∙ sym (y .2)))
+      | no n ↦ lines-one b text r r' t t' l l' (h .written (omega arith)) (k .written (omega arith))
+    ]

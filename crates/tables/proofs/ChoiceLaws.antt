@@ -16,18 +16,18 @@ use Rattle.tables.specs.Views.{onlyIf}
 
 -- ---- rounding up
 
-ceil-least : (a b m : ℕ) → 0 < b → a ≤ b * m → ceil a b ≤ m
+pub ceil-least : (a b m : ℕ) → 0 < b → a ≤ b * m → ceil a b ≤ m
 ceil-least a b m h k =
     let q : a + (b - 1) < suc m * b = let e = suc-mul m b in let e' = mul-comm b m in omega arith in
     let r : (a + (b - 1)) / b < suc m = div-lt-iff-lt-mul h .1 q in
     omega arith
 
-ceil-enough : (a b : ℕ) → 0 < b → a ≤ b * ceil a b
+pub ceil-enough : (a b : ℕ) → 0 < b → a ≤ b * ceil a b
 ceil-enough a b h = let q = lt-div-mul-add {a = a + (b - 1)} h in let e = mul-comm b ((a + (b - 1)) / b) in omega arith
 
 -- ---- sums
 
-sum-mono : (n : ℕ) (f g : ℕ → ℕ) → ((k : ℕ) → k < n → f k ≤ g k) → sumTo n f ≤ sumTo n g
+pub sum-mono : (n : ℕ) (f g : ℕ → ℕ) → ((k : ℕ) → k < n → f k ≤ g k) → sumTo n f ≤ sumTo n g
 unfolding sumTo
 sum-mono zero f g h = le-refl 0
 sum-mono (suc n) f g h = add-le-add (sum-mono n f g (λ k l. h k (omega arith))) (h n (omega arith))

@@ -23,7 +23,7 @@ use Rattle.tables.specs.Rules.R9.{R9}
 use Rattle.tables.specs.Lawful.{Lawful}
 use Rattle.tables.specs.Books.{Sized, Marked, Placed, Good}
 use Rattle.tables.proofs.ZoneEntryLaws.{zone-kept}
-use Rattle.tables.proofs.SameLaws.{same-R2, same-R3, same-R4, same-R5, same-R6, same-R7, same-R8}
+use Rattle.tables.proofs.SameLaws.{same-ground, ground-R2, ground-R3, same-R4, same-R5, same-R6, same-R7, same-R8}
 
 -- a write outside an index table leaves it
 pub table-kept : {b b' : List ℕ} {o n : ℕ} (p : Places) (i : ℕ) → Kept b b' o n → Apart (p .indextable + 128 * (i - 1)) 128 o n → tableAt p b' i ≡ tableAt p b i
@@ -99,8 +99,8 @@ module _ (b b' : List ℕ) (k : Kept b b' 1024 1024) where
         let v' = viewOf p b' in
         record {
           r1 = record { stand = rw (k .len) (h .r1 .stand); tails = sector1-tails (h .r1 .tails) };
-          r2 = same-R2 v v' s (h .r2);
-          r3 = same-R3 v v' s (h .r3);
+          r2 = ground-R2 v v' (same-ground s) (h .r2);
+          r3 = ground-R3 v v' (same-ground s) (h .r3);
           r4 = same-R4 v v' s (h .r4);
           r5 = same-R5 v v' s (h .r5);
           r6 = same-R6 v v' s (h .r6);

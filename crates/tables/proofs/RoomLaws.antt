@@ -35,13 +35,13 @@ all-four a b c d h =
 
 -- ---- zones
 
-clear-one : (n : ℕ) → onlyIf (eqb n 0) 1 ≡ 1 - n
+pub clear-one : (n : ℕ) → onlyIf (eqb n 0) 1 ≡ 1 - n
 unfolding onlyIf
 clear-one zero = refl
 clear-one (suc n) = rw (ne-eqb (suc n) 0 (omega arith)) (omega arith)
 
 -- a zone whose blocks are all free is clear
-all-clear : (bit : ℕ → ℕ) (from size : ℕ) → Block size → Blocks bit from size (1024 / size) → (n : ℕ) → n < 1024 → bit (from + n) ≡ 0
+pub all-clear : (bit : ℕ → ℕ) (from size : ℕ) → Block size → Blocks bit from size (1024 / size) → (n : ℕ) → n < 1024 → bit (from + n) ≡ 0
 all-clear bit from size block blocks n l =
     let some = block .some in
     let lt : n / size < 1024 / size = div-lt-iff-lt-mul some .1 (omega (arith, block .whole)) in
@@ -51,13 +51,13 @@ all-clear bit from size block blocks n l =
 
 module _ (v : View) (r2 : R2 v) (z : ℕ) (low : 2 ≤ z) (high : z < v .zones) where
   -- a zone that is not open has a type
-  begun-typed : isOpen (v .zone z) ≡ false → Typed (v .zone z .ztype)
+  pub begun-typed : isOpen (v .zone z) ≡ false → Typed (v .zone z .ztype)
   begun-typed h =
       ⊎-elim (λ u. absurd (let e = open-untyped (v .zone z) (u .reads .ztype) in let q : _≡_ {A = ℕ} 0 1 = cc in omega arith)) (λ u. u .typed)
       (r2 z (omega arith) (omega arith) .other low high)
 
   -- one that is open is clear
-  open-clear : R3 v → isOpen (v .zone z) ≡ true → ZoneBits v z 0
+  pub open-clear : R3 v → isOpen (v .zone z) ≡ true → ZoneBits v z 0
   open-clear r3 h = ⊎-elim (λ u. u .clear) used (r2 z (omega arith) (omega arith) .other low high)
     where
       used : InUse v z → ZoneBits v z 0

@@ -10,7 +10,7 @@ use Rattle.tables.specs.Kinds.{zoneOf, firstOf}
 use Rattle.tables.specs.Blocks.{Block, blockOf}
 use Rattle.tables.specs.Indexes.{wordOf, parentOf, linkOf, startOf}
 use Rattle.tables.specs.Views.{View, Begins, Parent, Child, walk, next, tally, overOf, pointersOver, Under}
-use Rattle.tables.specs.Same.{Same}
+use Rattle.tables.specs.Same.{Same, Ground}
 use Rattle.tables.specs.Rules.R2.{ZoneBits, R2}
 use Rattle.tables.specs.Rules.R3.{Blocks, R3}
 use Rattle.tables.specs.Rules.R4.{R4}
@@ -42,14 +42,14 @@ module _ (bit bit' : ℕ → ℕ) (from size : ℕ) (block : Block size) (same :
 pub same-refl : (v : View) → Same v v
 same-refl v = record { zones = refl; indexes = refl; zone = λ z lo hi. refl; bit = λ s l. refl; table = λ i lo hi. refl; head = refl }
 
-module _ (v v' : View) (s : Same v v') where
-  -- ---- zones and sectors
+-- ---- zones and sectors
 
+module _ (v v' : View) (s : Ground v v') where
   same-bits : (z w : ℕ) → 1 ≤ z → z ≤ v .zones → ZoneBits v z w → ZoneBits v' z w
   same-bits z w lo hi h k l = s .bit (firstOf z + k) (omega arith) ∙ h k l
 
-  pub same-R2 : R2 v → R2 v'
-  same-R2 r z l lo =
+  pub ground-R2 : R2 v → R2 v'
+  ground-R2 r z l lo =
       let hi : z ≤ v .zones = omega (arith, s .zones) in
       let e = s .zone z lo hi in
       let o = r z (omega arith) lo in
@@ -60,12 +60,16 @@ module _ (v v' : View) (s : Same v v') where
             (λ u. inr (record { typed = rw e (u .typed); third = rw e (u .third) })) (o .other a (rw (s .zones) at b));
       }
 
-  pub same-R3 : R3 v → R3 v'
-  same-R3 r z l lo =
+  pub ground-R3 : R3 v → R3 v'
+  ground-R3 r z l lo =
       let l' : z < v .zones = rw (s .zones) at l in
       rw (s .zone z (omega arith) (omega arith)) (λ t.
       blocks-same (v .bit) (v' .bit) (firstOf z) (blockOf (v .zone z .ztype)) (block-of _ t) (λ k lk. s .bit _ (omega arith)) (v .zone z .free) (r z l' lo t))
 
+pub same-ground : {v v' : View} → Same v v' → Ground v v'
+same-ground s = record { zones = s .zones; zone = s .zone; bit = s .bit }
+
+module _ (v v' : View) (s : Same v v') where
   -- ---- chains
 
   pub same-begins : (i w : ℕ) → Begins v i w → Begins v' i w

@@ -11,3 +11,9 @@ pub record Same (v v' : View) : Type 0 where
   pub bit : (s : ℕ) → s < 1024 * v .zones → v' .bit s ≡ v .bit s
   pub table : (i : ℕ) → 1 ≤ i → i ≤ v .indexes → v' .table i ≡ v .table i
   pub head : v' .head ≡ v .head
+
+-- the part of it that rules R2 and R3 and the choice of blocks see: zone entries and sectors
+pub record Ground (v v' : View) : Type 0 where
+  pub zones : v' .zones ≡ v .zones
+  pub zone : (z : ℕ) → 1 ≤ z → z ≤ v .zones → v' .zone z ≡ v .zone z
+  pub bit : (s : ℕ) → s < 1024 * v .zones → v' .bit s ≡ v .bit s

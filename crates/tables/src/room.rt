@@ -16,7 +16,7 @@ ghost use Rattle.tables.specs.Views.{viewOf};
 ghost use Rattle.tables.specs.Room.{countAt, spareIn, spareOf, lackOf, Enough};
 
 // The free blocks that a zone has for type t, unless it is open.
-fn spare_in(t: u32, e: ZoneEntry) -> u64
+pub fn spare_in(t: u32, e: ZoneEntry) -> u64
     ensures { λ r. ⌜ (r ≡ spareIn t e) × (r ≤ 4294967295) ⌝ }
 {
     if is_open(e) {

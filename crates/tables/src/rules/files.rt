@@ -25,7 +25,7 @@ ghost use Rattle.tables.specs.Rules.R8.{fileType, FileLaw};
 // ---- sectors
 
 // The sectors under the pointers of table i, whose bytes are t.
-fn sectors_of(i: u32, t: &[u8]) -> u32
+pub fn sectors_of(i: u32, t: &[u8]) -> u32
     requires { ⌜ length (now t) ≡ 128 ⌝ }
     ensures { λ r. ⌜ r ≡ sectorsOf i (now (t .entry)) ⌝ }
 {
@@ -122,7 +122,7 @@ fn table_type(b: &[u8], p: Places, i: u32, t: &[u8], ty: u32) -> bool
 }
 
 // The type of the zone in which the first sector of parent f lies.
-fn file_type(b: &[u8], p: Places, f: u32) -> u32
+pub fn file_type(b: &[u8], p: Places, f: u32) -> u32
     requires { ⌜ Layout p (length (now b)) ⌝ }
     requires { ⌜ R6 (viewOf p (now b)) ⌝ }
     requires { ⌜ (1 ≤ f) × (f ≤ p .indexes) ⌝ }

@@ -1,0 +1,250 @@
+-- Blocks added to a file, each taken and pointed at, keep the rules: the single steps put together. Assumes nothing.
+use mathlib.Core.Path.{_≡_, refl, sym, ap, ap₂, _∙_}
+use mathlib.Core.Bool.{cond}
+use mathlib.Core.Logic.{_≢_}
+use mathlib.Core.List.{List, [], _∷_}
+use Prim.Native.Nat.{ℕ, _+_, _-_, _*_, _≤_, _<_}
+use native.Mathlib.Decide.{ℕ-discrete, decLt}
+use native.Mathlib.Omega.{arith}
+use borrow.Author.Tests.{ne-eqb, le-leb, lt-leb}
+use lib.Dec.{leb}
+use lib.ListN.{length, getD}
+use Rattle.field.proofs.BitLaws.{bitAt-lt}
+use Rattle.tables.specs.declared.index.Pointer.{Pointer}
+use Rattle.tables.specs.declared.places.Places.{Places}
+use Rattle.tables.specs.Kinds.{zoneOf}
+use Rattle.tables.specs.Blocks.{blockOf}
+use Rattle.tables.specs.Indexes.{baseOf, startOf, countOf}
+use Rattle.tables.specs.Places.{Layout}
+use Rattle.tables.specs.Sector1.{firstFreeOf}
+use Rattle.tables.specs.Views.{View, viewOf, cov}
+use Rattle.tables.specs.Rules.R6.{Run}
+use Rattle.tables.proofs.BlockLaws.{block-of, block-in}
+use Rattle.tables.proofs.IndexLaws.{length-table}
+use Rattle.tables.proofs.PointerLaws.{cov-join}
+use Rattle.allocation.specs.declared.choice.Found.{Found}
+use Rattle.allocation.specs.declared.tail.Tail.{Tail}
+use Rattle.allocation.specs.declared.growth.Cursor.{Cursor}
+use Rattle.allocation.specs.Choice.{nextBlock, sectorOf, putBlock, inTurn}
+use Rattle.allocation.specs.Tails.{joins, longer, beside, further, push}
+use Rattle.allocation.specs.NewTables.{putChild}
+use Rattle.allocation.specs.Growth.{Growth, pointed, addBlock}
+use Rattle.allocation.specs.Ready.{Head, Ready}
+use Rattle.allocation.specs.Steps.{Choosable, Taken, SameFiles}
+use Rattle.allocation.specs.Held.{Held, Ends, nothing}
+use Rattle.allocation.specs.Lengthened.{sectorsIn, AllOf, Quiet, Lengthened}
+use Rattle.allocation.proofs.TurnLaws.{turn-none, turn-step}
+use Rattle.allocation.proofs.PlanLaws.{push-cases, stock-free, stock-taken}
+use Rattle.allocation.proofs.StockLaws.{taken-R2, taken-R3}
+use Rattle.allocation.proofs.TakenLaws.{length-putBlock, block-files, block-sector0, block-tails}
+use Rattle.allocation.proofs.TakenHeld.{new-run, taken-held, taken-ends, taken-types, files-sectors}
+use Rattle.allocation.proofs.StepLaws.{Calm, pointer-still, child-popped}
+use Rattle.allocation.proofs.ChangeLaws.{Longer}
+use Rattle.allocation.proofs.WrittenHeld.{joined-held, beside-held}
+use Rattle.allocation.proofs.ExtendedHeld.{extended-held}
+use Rattle.allocation.proofs.ReadyLaws.{Taking, add-is, laid-is, here-is, further-is, pointed-here, pointed-further, here-written, taking-head, further-extended, step-taking, ready-step}
+
+-- two runs that meet
+run-join : (v : View) (a c d : ℕ) → Run v a c → Run v (a + c) d → c + d ≤ 32767 → Run v a (c + d)
+run-join v a c d r q few = record {
+  some = omega (arith, r .some);
+  few = few;
+  low = r .low;
+  high = omega (arith, q .high);
+  typed = λ s h l. elim (decLt s (a + c)) [ yes x ↦ r .typed s x l | no x ↦ q .typed s (omega arith) (omega arith) ];
+  whole = λ z l lo ty k lk j lj. cov-join a c d _ ∙ ap₂ (λ (x y : ℕ). x + y) (r .whole z l lo ty k lk j lj) (q .whole z l lo ty k lk j lj) ∙ sym (cov-join a c d _);
+}
+
+-- a block that does not begin at the last pointer's end has a pointer of its own
+push-apart : (l : Tail) (s n : ℕ) → l .last .start .0 + l .last .count ≢ s → push l s n ≡ cond (leb (l .at + 12) 124) (beside l s n) (further l s n)
+unfolding push joins
+push-apart l s n ne = rw (ne-eqb (l .last .start .0 + l .last .count) s ne)
+
+-- where it joins the last pointer, it begins at its end
+push-ways : (P : Tail → Type 0) (l : Tail) (s n : ℕ) → (l .last .start .0 + l .last .count ≡ s → l .last .count + n ≤ 32767 → P (longer l n))
+    → (l .at + 12 ≤ 124 → P (beside l s n)) → (124 < l .at + 12 → P (further l s n)) → P (push l s n)
+push-ways P l s n a b c = elim (ℕ-discrete (l .last .start .0 + l .last .count) s) [
+  | yes e ↦ push-cases P l s n (a e) b c
+  | no ne ↦ rw (push-apart l s n ne) (elim (decLt 124 (l .at + 12)) [ yes h ↦ rw (lt-leb (l .at + 12) 124 h) (c h) | no h ↦ rw (le-leb (l .at + 12) 124 (omega arith)) (b (omega arith)) ])
+]
+
+-- ---- frames
+
+quiet-trans : {p : Places} {a b c : List ℕ} → Quiet p a b → Quiet p b c → Quiet p a c
+quiet-trans f g = record { len = g .len ∙ f .len; low = λ j l. g .low j l ∙ f .low j l; tails = λ s t. g .tails (rw (f .len) s) (f .tails s t) }
+
+calm-quiet : {p : Places} {a b : List ℕ} → Calm p a b → Quiet p a b
+calm-quiet c = record { len = c .len; low = c .low; tails = c .tails }
+
+-- ---- a block
+
+module _ (p : Places) (f t : ℕ) (ts : List ℕ) (g : Growth) (ready : Ready p f g (t ∷ ts)) (held : Held (viewOf p (g .books)) f nothing)
+    (ends : Ends (viewOf p (g .books)) f (g .cursor)) where
+  abbrev k : Found
+  k = nextBlock (viewOf p (g .books)) t
+
+  abbrev b : List ℕ
+  b = putBlock p (g .books) t k
+
+  abbrev v : View
+  v = viewOf p b
+
+  abbrev c : Cursor
+  c = g .cursor
+
+  abbrev l : Tail
+  l = g .cursor .tail
+
+  abbrev s : ℕ
+  s = sectorOf t k
+
+  abbrev n : ℕ
+  n = blockOf t
+
+  bits : (x : ℕ) → viewOf p (g .books) .bit x < 2
+  bits x = bitAt-lt (g .books) (p .sectortable) x
+
+  can : Choosable (viewOf p (g .books)) t k
+  can = stock-free p (g .books) t ts (ready .layout) (ready .stocked)
+
+  took : Taken (viewOf p (g .books)) v t k
+  took = stock-taken p (g .books) t ts (ready .layout) (ready .stocked)
+
+  files : SameFiles (viewOf p (g .books)) v
+  files = block-files p (g .books) t k (ready .layout) (can .proper)
+
+  -- the block is taken and not yet under a pointer
+  block-held : Held v f (λ x. 0 + cov s n x)
+  block-held = taken-held can took files bits held (taken-R2 _ v t k can took (held .r2)) (taken-R3 _ v t k can took (held .r3))
+
+  block-ends : Ends v f c
+  block-ends = taken-ends files ends
+
+  block-run : Run v s n
+  block-run = new-run can took
+
+  block-type : (x : ℕ) → s ≤ x → x < s + n → v .zone (zoneOf x) .ztype ≡ t
+  unfolding sectorOf
+  block-type x lo hi =
+      let q = can .proper in
+      let i = block-in (k .number) n (block-of t (q .typed)) (q .within) in
+      let e : zoneOf x ≡ k .zone .0 = omega (arith, q .low) in
+      rw (e, took .here)
+
+  block-layout : Layout p (length b)
+  block-layout = rw (length-putBlock p (g .books) t k) (ready .layout)
+
+  block-quiet : Quiet p (g .books) b
+  block-quiet = record {
+    len = length-putBlock p (g .books) t k;
+    low = λ j lj. block-sector0 p (g .books) t k (ready .layout) (can .proper) j (omega arith);
+    tails = λ st q. block-tails p (g .books) t k st (ready .layout) (can .proper) q;
+  }
+
+  sized : (j : ℕ) → 1 ≤ j → j ≤ p .indexes → length (v .table j) ≡ 128
+  sized j = length-table p b j block-layout
+
+  -- and then under one
+  block-longer : (a : ℕ) (b' : List ℕ) (c' : Cursor) → a ≡ s → Longer v (viewOf p b') f a n nothing c' → Quiet p b b' → Lengthened p f g (record { books = b'; cursor = c' }) (t ∷ [])
+  unfolding sectorsIn AllOf
+  block-longer a b' c' e o quiet = record {
+    held = o .held;
+    ends = o .ends;
+    sectors = omega (arith, o .sectors, files-sectors files f);
+    front = λ j lj. o .front j lj ∙ ap (λ (x : List ℕ). getD x j 0) (files .table f (ends .parent .low) (ends .parent .high));
+    types = λ u all ty. o .types u (taken-types can took files bits held f u ty) (λ x lo hi. block-type x (omega arith) (omega arith) ∙ all .0);
+    quiet = quiet-trans block-quiet quiet;
+  }
+
+  -- in the last pointer
+  joined : l .last .start .0 + l .last .count ≡ s → l .last .count + n ≤ 32767 → Taking p f b c (longer l n) ts → Lengthened p f g (pointed p f b c (longer l n)) (t ∷ [])
+  joined e few h =
+      rw (pointed-here p f b c (longer l n) refl, here-is p f b c (longer l n))
+      (block-longer _ _ _ e
+      (joined-held v _ f c (ready .layout .few) sized block-ends _ nothing block-held (l .tables) n some (here-written p f b c (longer l n) ts h)
+      (run-join v (l .last .start .0) (l .last .count) n old (rw e block-run) few) (λ x. rw e (omega arith)))
+      (calm-quiet (pointer-still p b (c .table .0) (l .at) (longer l n .last) block-layout (ready .low) (ready .high) (omega (arith, ready .at)) .calm)))
+    where
+      some : 1 ≤ block-ends .slot
+      some = elim (ℕ-discrete (block-ends .slot) 0) [ yes z ↦ absurd (omega (arith, block-ends .none z, block-run .low)) | no ne ↦ omega arith ]
+
+      place : baseOf (c .table .0) (v .table (c .table .0)) + 6 * (block-ends .slot - 1) ≡ l .at
+      place = omega (arith, block-ends .place, some)
+
+      start : startOf (c .table .0) (v .table (c .table .0)) (block-ends .slot - 1) ≡ l .last .start .0
+      start = rw place (sym (ap (λ (q : Pointer). q .start .0) (block-ends .pointer some)))
+
+      count : countOf (c .table .0) (v .table (c .table .0)) (block-ends .slot - 1) ≡ l .last .count
+      count = rw place (sym (ap (λ (q : Pointer). q .count) (block-ends .pointer some)))
+
+      old : Run v (l .last .start .0) (l .last .count)
+      old =
+          let shape = block-held .r6 (c .table .0) (omega (arith, ready .high)) (ready .low) in
+          rw (start, count) at (shape .used (block-ends .slot - 1) (omega (arith, block-ends .within, some)) (block-ends .used (block-ends .slot - 1) (omega (arith, some))))
+
+  -- in a pointer of its own beside it
+  stood : l .at + 12 ≤ 124 → Taking p f b c (beside l s n) ts → Lengthened p f g (pointed p f b c (beside l s n)) (t ∷ [])
+  stood room h =
+      rw (pointed-here p f b c (beside l s n) refl, here-is p f b c (beside l s n))
+      (block-longer _ _ _ refl
+      (beside-held v _ f c (ready .layout .few) sized block-ends _ nothing block-held (l .tables) (beside l s n .last) (here-written p f b c (beside l s n) ts h) room block-run (λ x. omega arith))
+      (calm-quiet (pointer-still p b (c .table .0) (l .at + 6) (beside l s n .last) block-layout (ready .low) (ready .high) (omega (arith, room)) .calm)))
+
+  -- in a further child's first one
+  chained : 124 < l .at + 12 → Taking p f b c (further l s n) ts → Lengthened p f g (pointed p f b c (further l s n)) (t ∷ [])
+  chained room h =
+      rw (pointed-further p f b c (further l s n) more, further-is p f b c (further l s n))
+      (block-longer _ _ _ refl
+      (extended-held v _ f c (ready .layout .few) sized block-ends _ nothing block-held (l .tables + 1) (further l s n .last)
+      (further-extended p f b c (further l s n) ts h more) room (λ z. omega (arith, head .low)) block-run (λ x. omega arith))
+      (quiet-trans (calm-quiet new) (calm-quiet (pointer-still p (putChild p b f (c .table .0)) (firstFreeOf b) 22 (further l s n .last) (rw (new .len) block-layout) (head .low) (head .high) (omega arith) .calm))))
+    where
+      more : further l s n .tables ≢ l .tables
+      more e = omega arith
+
+      head : Head p b
+      head = taking-head p f b c (further l s n) ts h more
+
+      new : Calm p b (putChild p b f (c .table .0))
+      new = child-popped p b f (c .table .0) block-layout head (ready .low) (ready .high) .calm
+
+pub add-held : (p : Places) (f t : ℕ) (ts : List ℕ) (g : Growth) → Ready p f g (t ∷ ts) → Held (viewOf p (g .books)) f nothing → Ends (viewOf p (g .books)) f (g .cursor)
+    → Lengthened p f g (addBlock p f t g) (t ∷ [])
+add-held p f t ts g ready held ends =
+    let k = nextBlock (viewOf p (g .books)) t in
+    let b = putBlock p (g .books) t k in
+    rw (add-is p f t g, laid-is p f t k g)
+    (push-ways (λ r. Taking p f b (g .cursor) r ts → Lengthened p f g (pointed p f b (g .cursor) r) (t ∷ [])) (g .cursor .tail) (sectorOf t k) (blockOf t)
+    (joined p f t ts g ready held ends) (stood p f t ts g ready held ends) (chained p f t ts g ready held ends) (step-taking p f g t ts ready))
+
+-- ---- blocks in turn
+
+lengthened-none : (p : Places) (f : ℕ) (g : Growth) → Held (viewOf p (g .books)) f nothing → Ends (viewOf p (g .books)) f (g .cursor) → Lengthened p f g (inTurn (addBlock p f) [] g) []
+unfolding sectorsIn
+lengthened-none p f g held ends = rw (turn-none (addBlock p f) g) (record {
+  held = held;
+  ends = ends;
+  sectors = omega arith;
+  front = λ o l. refl;
+  types = λ t all ty. ty;
+  quiet = record { len = refl; low = λ j l. refl; tails = λ s q. q };
+})
+
+lengthened-more : (p : Places) (f t : ℕ) (ts : List ℕ) (g : Growth) → Lengthened p f g (addBlock p f t g) (t ∷ [])
+    → Lengthened p f (addBlock p f t g) (inTurn (addBlock p f) ts (addBlock p f t g)) ts → Lengthened p f g (inTurn (addBlock p f) (t ∷ ts) g) (t ∷ ts)
+unfolding sectorsIn AllOf
+lengthened-more p f t ts g one more = rw (turn-step (addBlock p f) t ts g) (record {
+  held = more .held;
+  ends = more .ends;
+  sectors = omega (arith, one .sectors, more .sectors);
+  front = λ o l. more .front o l ∙ one .front o l;
+  types = λ u all ty. more .types u (all .1) (one .types u (all .0, tt) ty);
+  quiet = quiet-trans (one .quiet) (more .quiet);
+})
+
+pub adds-held : (p : Places) (f : ℕ) (ts : List ℕ) (g : Growth) → Ready p f g ts → Held (viewOf p (g .books)) f nothing → Ends (viewOf p (g .books)) f (g .cursor)
+    → Lengthened p f g (inTurn (addBlock p f) ts g) ts
+adds-held p f [] g ready held ends = lengthened-none p f g held ends
+adds-held p f (t ∷ ts) g ready held ends =
+    let one = add-held p f t ts g ready held ends in
+    lengthened-more p f t ts g one (adds-held p f ts (addBlock p f t g) (ready-step p f g t ts ready) (one .held) (one .ends))

@@ -1,0 +1,481 @@
+-- One index table becomes, or stays, one of file f's, and links of f's other tables may change: what follows for the rules, whatever is
+-- written. Assumes nothing.
+use mathlib.Core.Path.{_≡_, refl, sym, ap, ap₂, _∙_}
+use mathlib.Core.Logic.{_≢_, _⊎_, inl, inr, ⊎-elim}
+use mathlib.Core.Bool.{cond}
+use mathlib.Core.List.{List}
+use Prim.Native.Nat.{ℕ, zero, suc, _+_, _-_, _*_, _≤_, _<_}
+use native.Mathlib.Decide.{ℕ-discrete}
+use native.Mathlib.Omega.{arith}
+use lib.Dec.{eqb}
+use lib.ListN.{getD}
+use borrow.Author.Tests.{eq-eqb, ne-eqb}
+use Rattle.field.specs.Kept.{Kept}
+use Rattle.field.specs.Sum.{sumTo}
+use Rattle.field.proofs.Sums.{sum-same, sum-at, sum-zero}
+use Rattle.field.proofs.NumberLaws.{u16-kept}
+use Rattle.tables.specs.declared.zone.ZoneEntry.{ZoneEntry}
+use Rattle.tables.specs.Kinds.{zoneOf}
+use Rattle.tables.specs.Findings.{Each}
+use Rattle.tables.specs.Indexes.{wordOf, parentOf, attributeOf, linkOf, minus, slotsOf, startOf, countOf, Used, sectorsOf, fileOf}
+use Rattle.tables.specs.Same.{Ground}
+use Rattle.tables.specs.Views.{View, Begins, Free, Parent, Child, walk, next, onlyIf, tally, cov, overOf, pointersOver, Under}
+use Rattle.tables.specs.Rules.R4.{FreeChain, Own, R4}
+use Rattle.tables.specs.Rules.R5.{Full, FileChain, Stands, R5}
+use Rattle.tables.specs.Rules.R6.{Run}
+use Rattle.tables.specs.Rules.R8.{fileSectors, fileType, OneType, File, FileLaw}
+use Rattle.tables.specs.Rules.R9.{freeOne, activeOne, deletedOne, systemOne, directoryOne, R9}
+use Rattle.tables.proofs.ChainLaws.{walk-same, walk-once, walk-tail, walk-none}
+use Rattle.tables.proofs.IndexLaws.{slots-free, slots-parent, slots-in, file-free, file-parent, file-child}
+use Rattle.tables.proofs.CountLaws.{Ones, only-eq, only-ne, ones-other, free-yes, free-no}
+use Rattle.allocation.specs.declared.growth.Cursor.{Cursor}
+use Rattle.allocation.specs.Held.{Shapely, Held, Ends, InType}
+use Rattle.allocation.proofs.PointerBytes.{word-kept, parent-kept, slots-kept, file-kept, start-kept, count-kept}
+
+-- table x was of file f or free, and is of file f; the file's other tables keep all but their links, and all others all
+pub record Changed (v v' : View) (f x : ℕ) : Type 0 where
+  pub ground : Ground v v'
+  pub indexes : v' .indexes ≡ v .indexes
+  pub few : v .indexes ≤ 4096
+  pub file : 1 ≤ f
+  pub low : 1 ≤ x
+  pub high : x ≤ v .indexes
+  pub kept : (j : ℕ) → 1 ≤ j → j ≤ v .indexes → j ≢ x → Kept (v .table j) (v' .table j) 124 4
+  pub there : (j : ℕ) → 1 ≤ j → j ≤ v .indexes → j ≢ x → fileOf j (v .table j) ≢ f → v' .table j ≡ v .table j
+  pub was : (fileOf x (v .table x) ≡ f) ⊎ (fileOf x (v .table x) ≡ 0)
+  pub now : fileOf x (v' .table x) ≡ f
+  pub word : (wordOf (v' .table x) ≡ x) ⊎ (wordOf (v' .table x) ≡ minus x)
+
+-- file f is longer by the n sectors from a on: the rules hold but for d, its pointers end at c, and what they lie over is known
+pub record Longer (v v' : View) (f a n : ℕ) (d : ℕ → ℕ) (c : Cursor) : Type 0 where
+  pub held : Held v' f d
+  pub ends : Ends v' f c
+  pub sectors : fileSectors v' f ≡ fileSectors v f + n
+  pub front : (o : ℕ) → o < 58 → getD (v' .table f) o 0 ≡ getD (v .table f) o 0
+  pub types : (t : ℕ) → InType v f t → ((s : ℕ) → a ≤ s → s < a + n → v .zone (zoneOf s) .ztype ≡ t) → InType v' f t
+
+-- ---- the file that a table is of
+
+pub free-file : (v : View) (i : ℕ) → Free v i → fileOf i (v .table i) ≡ 0
+free-file v i h = file-free i (v .table i) (h .word)
+
+pub parent-file : (v : View) (i : ℕ) → Parent v i → fileOf i (v .table i) ≡ i
+parent-file v i h = file-parent i (v .table i) (λ z. omega (arith, h .low, h .word)) (h .word)
+
+pub child-file : (v : View) (i : ℕ) → v .indexes ≤ 4096 → Child v i → fileOf i (v .table i) ≡ parentOf (v .table i)
+child-file v i few h = file-child i (v .table i) (λ z. omega (arith, h .high, h .word)) (λ z. omega (arith, h .high, h .word))
+
+module _ (v : View) (few : v .indexes ≤ 4096) (p n : ℕ) (par : Parent v p) (ch : FileChain v p n) where
+  pub member-begins : (k : ℕ) → k < suc n → (w : ℕ) × Begins v (walk (next v) p k) w × (w ≢ 0)
+  member-begins zero l = (p, rw (walk-none (next v) p) par, λ z. omega (arith, par .low))
+  member-begins (suc k) l = let h = ch .each k (omega arith) in (_, h, λ z. omega (arith, h .high))
+
+  pub member-file : (k : ℕ) → k < suc n → fileOf (walk (next v) p k) (v .table (walk (next v) p k)) ≡ p
+  member-file zero l = rw (walk-none (next v) p) (parent-file v p par)
+  member-file (suc k) l = child-file v _ few (ch .each k (omega arith)) ∙ ch .names k (omega arith)
+
+  pub member-word : (k : ℕ) → k < suc n → (wordOf (v .table (walk (next v) p k)) ≡ walk (next v) p k) ⊎ (wordOf (v .table (walk (next v) p k)) ≡ minus (walk (next v) p k))
+  member-word zero l = inl (rw (walk-none (next v) p) (par .word))
+  member-word (suc k) l = inr (ch .each k (omega arith) .word)
+
+-- the free chain's head is free, if there is one
+pub head-free : (v : View) → R4 v → v .head ≢ 0 → Free v (v .head)
+head-free v r ne = go (r .long) (r .chain)
+  where
+    go : (m : ℕ) → FreeChain v m → Free v (v .head)
+    go zero ch = absurd (ne (sym (walk-none (next v) (v .head)) ∙ ch .ends))
+    go (suc m) ch = rw (walk-none (next v) (v .head)) at (ch .each 0 (omega arith))
+
+-- what is used is not free
+pub used-not : (v : View) (i j w : ℕ) → Free v j → Begins v i w → w ≢ 0 → i ≢ j
+used-not v i j w free h nz e = nz (sym (h .word) ∙ ap (λ (n : ℕ). wordOf (v .table n)) e ∙ free .word)
+
+-- a free table is no part of a sum over pointers
+pub over-free : (i : ℕ) (t : List ℕ) (s : ℕ) → wordOf t ≡ 0 → overOf i t s ≡ 0
+unfolding overOf
+over-free i t s e = sum-zero (slotsOf i t) _ (λ k l. absurd (omega (arith, slots-free i t e)))
+
+-- a sum of which only the first part is more than 0
+pub sum-first : (n : ℕ) (f : ℕ → ℕ) → 0 < n → ((k : ℕ) → k < n → 0 < k → f k ≡ 0) → sumTo n f ≡ f 0
+sum-first n f l h = omega (arith, sum-at n 0 f (λ k. 0) l (λ k lk ne. h k lk (omega arith)), sum-zero n (λ k. 0) (λ k l. refl))
+
+-- ---- runs and chains
+
+pub ground-zone : (v v' : View) → Ground v v' → (s : ℕ) → s < 1024 * (v .zones - 1) → v' .zone (zoneOf s) ≡ v .zone (zoneOf s)
+ground-zone v v' g s l = g .zone (zoneOf s) (omega arith) (omega arith)
+
+pub ground-run : (v v' : View) → Ground v v' → (a c : ℕ) → Run v a c → Run v' a c
+ground-run v v' g a c r = record {
+  some = r .some;
+  few = r .few;
+  low = r .low;
+  high = rw (g .zones) (r .high);
+  typed = λ s h l. rw (ground-zone v v' g s (omega (arith, r .high))) (r .typed s h l);
+  whole = λ z l lo. (let l' : z < v .zones = rw (g .zones) at l in rw (g .zone z (omega arith) (omega arith)) (r .whole z l' lo));
+}
+
+-- index j keeps what the chains see of it
+pub record Stays (v v' : View) (j : ℕ) : Type 0 where
+  pub link : next v' j ≡ next v j
+  pub word : wordOf (v' .table j) ≡ wordOf (v .table j)
+  pub parent : parentOf (v' .table j) ≡ parentOf (v .table j)
+  pub full : Full v j → Full v' j
+
+pub stays-same : (v v' : View) (j : ℕ) → v' .table j ≡ v .table j → Stays v v' j
+stays-same v v' j e = record { link = ap linkOf e; word = ap wordOf e; parent = ap parentOf e; full = λ h. rw e h }
+
+module _ (v v' : View) (same : v' .indexes ≡ v .indexes) (p n : ℕ) (ch : FileChain v p n) (stays : (k : ℕ) → k < suc n → Stays v v' (walk (next v) p k)) where
+  pub walk-stays : (k : ℕ) → k ≤ suc n → walk (next v') p k ≡ walk (next v) p k
+  walk-stays = walk-same (next v) (next v') p (suc n) (λ k l. stays k l .link)
+
+  pub chain-stays : FileChain v' p n
+  chain-stays = record {
+    ends = walk-stays (suc n) (omega arith) ∙ ch .ends;
+    each = λ k l. rw (walk-stays (suc k) (omega arith)) (let h = ch .each k l in record { low = h .low; high = rw same (h .high); word = stays (suc k) (omega arith) .word ∙ h .word });
+    names = λ k l. rw (walk-stays (suc k) (omega arith)) (stays (suc k) (omega arith) .parent ∙ ch .names k l);
+    full = λ k l. rw (walk-stays k (omega arith)) (stays k (omega arith) .full (ch .full k l));
+  }
+
+-- a table adds the same to the counts if it begins with the same and, where it is a parent, has the same attribute
+pub ones-same : (j : ℕ) (t t' : List ℕ) → wordOf t' ≡ wordOf t → (wordOf t ≡ j → attributeOf t' ≡ attributeOf t) → Ones j t' (activeOne j t) (deletedOne j t) (freeOne j t) (systemOne j t) (directoryOne j t)
+unfolding activeOne deletedOne freeOne systemOne directoryOne
+ones-same j t t' word attribute =
+    elim (ℕ-discrete (wordOf t) j) [
+      | yes q ↦ (let e = attribute q in record { active = rw (word, e); deleted = rw (word, e); free = rw word; system = rw (word, e); directory = rw (word, e) })
+      | no ne ↦ (let o = ones-other j t ne in let n = ones-other j t' (λ q. ne (sym word ∙ q)) in record {
+        active = n .active ∙ sym (o .active);
+        deleted = n .deleted ∙ sym (o .deleted);
+        free = rw word;
+        system = n .system ∙ sym (o .system);
+        directory = n .directory ∙ sym (o .directory);
+      })
+    ]
+
+module _ (v v' : View) (f x : ℕ) (h : Changed v v' f x) where
+  -- ---- tables but x
+
+  module _ (j : ℕ) (lo : 1 ≤ j) (hi : j ≤ v .indexes) (ne : j ≢ x) where
+    pub word-there : wordOf (v' .table j) ≡ wordOf (v .table j)
+    word-there = word-kept j (h .kept j lo hi ne) (omega arith)
+
+    pub parent-there : parentOf (v' .table j) ≡ parentOf (v .table j)
+    parent-there = parent-kept j (h .kept j lo hi ne) (omega arith)
+
+    pub file-there : fileOf j (v' .table j) ≡ fileOf j (v .table j)
+    file-there = file-kept j (h .kept j lo hi ne) (omega arith)
+
+    pub slots-there : slotsOf j (v' .table j) ≡ slotsOf j (v .table j)
+    slots-there = slots-kept j (h .kept j lo hi ne) (omega arith)
+
+    pub start-there : (k : ℕ) → k < slotsOf j (v .table j) → startOf j (v' .table j) k ≡ startOf j (v .table j) k
+    start-there k l = start-kept j (h .kept j lo hi ne) (omega arith) k (inl (omega (arith, slots-in j (v .table j))))
+
+    pub count-there : (k : ℕ) → k < slotsOf j (v .table j) → countOf j (v' .table j) k ≡ countOf j (v .table j) k
+    count-there k l = count-kept j (h .kept j lo hi ne) (omega arith) k (inl (omega (arith, slots-in j (v .table j))))
+
+    pub over-there : (s : ℕ) → overOf j (v' .table j) s ≡ overOf j (v .table j) s
+    unfolding overOf
+    over-there s = rw slots-there (sum-same (slotsOf j (v .table j)) _ _ (λ k l. ap₂ (λ (a c : ℕ). cov a c s) (start-there k l) (count-there k l)))
+
+    pub sectors-there : sectorsOf j (v' .table j) ≡ sectorsOf j (v .table j)
+    unfolding sectorsOf
+    sectors-there = rw slots-there (sum-same (slotsOf j (v .table j)) _ _ count-there)
+
+    pub full-there : Full v j → Full v' j
+    full-there full k l = let l' : k < slotsOf j (v .table j) = rw slots-there at l in rw (start-there k l', count-there k l') (full k l')
+
+    pub begins-there : (w : ℕ) → Begins v j w → Begins v' j w
+    begins-there w b = record { low = lo; high = rw (h .indexes) hi; word = word-there ∙ b .word }
+
+    pub begins-was : (w : ℕ) → Begins v' j w → Begins v j w
+    begins-was w b = record { low = lo; high = hi; word = sym word-there ∙ b .word }
+
+    pub shapely-there : Shapely v f j (v .table j) → Shapely v' f j (v' .table j)
+    shapely-there s = record {
+      first = λ k l u. (let l' : suc k < slotsOf j (v .table j) = rw slots-there at l in
+          rw (start-there k (omega arith), count-there k (omega arith)) (s .first k l' (rw (start-there (suc k) l', count-there (suc k) l') at u)));
+      used = λ k l u. (let l' : k < slotsOf j (v .table j) = rw slots-there at l in
+          rw (start-there k l', count-there k l') (ground-run v v' (h .ground) _ _ (s .used k l' (rw (start-there k l', count-there k l') at u))));
+      one = λ e nf. one (sym word-there ∙ e) (s .one (sym word-there ∙ e) nf);
+      header = λ e k l. h .kept j lo hi ne .out (58 + k) (inl (omega arith)) ∙ s .header (sym word-there ∙ e) k l;
+    }
+      where
+        one : wordOf (v .table j) ≡ j → Used j (v .table j) 0 → Used j (v' .table j) 0
+        one e u =
+            let l : 0 < slotsOf j (v .table j) = omega (arith, slots-parent j (v .table j) (λ z. omega arith) e) in
+            rw (start-there 0 l, count-there 0 l) u
+
+  -- ---- other files
+
+  parent-other : (p : ℕ) → Parent v p → p ≢ f → p ≢ x
+  parent-other p q ne e =
+      let a : fileOf x (v .table x) ≡ p = ap (λ (i : ℕ). fileOf i (v .table i)) (sym e) ∙ parent-file v p q in
+      ⊎-elim (λ w. ne (sym a ∙ w)) (λ w. omega (arith, q .low)) (h .was)
+
+  other-table : (j p : ℕ) → 1 ≤ j → j ≤ v .indexes → 1 ≤ p → p ≢ f → fileOf j (v .table j) ≡ p → v' .table j ≡ v .table j
+  other-table j p lo hi lp ne e = h .there j lo hi not-x (λ w. ne (sym e ∙ w))
+    where
+      not-x : j ≢ x
+      not-x q =
+          let a : fileOf x (v .table x) ≡ p = ap (λ (i : ℕ). fileOf i (v .table i)) (sym q) ∙ e in
+          ⊎-elim (λ w. ne (sym a ∙ w)) (λ w. omega arith) (h .was)
+
+  other-was : (j p : ℕ) → 1 ≤ j → j ≤ v .indexes → p ≢ f → fileOf j (v' .table j) ≡ p → fileOf j (v .table j) ≡ p
+  other-was j p lo hi ne e = sym (file-there j lo hi (λ q. ne (sym e ∙ ap (λ (i : ℕ). fileOf i (v' .table i)) q ∙ h .now))) ∙ e
+
+  -- ---- R4
+
+  pub free-was : (j : ℕ) → Free v' j → (j ≢ x) × Free v j
+  free-was j b =
+      let ne : j ≢ x = λ q. (let a : 0 ≡ f = sym (free-file v' j b) ∙ ap (λ (i : ℕ). fileOf i (v' .table i)) q ∙ h .now in omega (arith, h .file)) in
+      (ne, begins-was j (b .low) (rw (h .indexes) at (b .high)) ne 0 b)
+
+  free-table : (j : ℕ) → j ≢ x → Free v j → v' .table j ≡ v .table j
+  free-table j ne b = h .there j (b .low) (b .high) ne (λ e. omega (arith, free-file v j b, h .file))
+
+  own-all : Each (Own v) 1 (v .indexes + 1) → Each (Own v') 1 (v' .indexes + 1)
+  own-all own j l lo =
+      let hi : j ≤ v .indexes = omega (arith, h .indexes) in
+      elim (ℕ-discrete j x) [
+        | yes e ↦ rw e (record { word = inr (h .word); blank = λ z. absurd (⊎-elim (λ w. omega (arith, h .low)) (λ w. omega (arith, h .few, h .high)) (h .word)) })
+        | no ne ↦ record {
+          word = rw (word-there j lo hi ne) (own j (omega arith) lo .word);
+          blank = λ z. (let b : Free v j = record { low = lo; high = hi; word = sym (word-there j lo hi ne) ∙ z } in
+              rw (free-table j ne b) (own j (omega arith) lo .blank (b .word)));
+        }
+      ]
+
+  pub stay-R4 : v' .head ≡ v .head → wordOf (v .table x) ≢ 0 → R4 v → R4 v'
+  stay-R4 head nz r = record {
+    own = own-all (r .own);
+    long = r .long;
+    chain = record {
+      ends = go (r .long) (omega arith) ∙ r .chain .ends;
+      each = λ k l. rw (go k (omega arith)) (let b = r .chain .each k l in begins-there _ (b .low) (b .high) (not-x _ b) 0 b);
+      every = λ i b. (let e = r .chain .every i (free-was i b .1) in (e .0, e .1, go (e .0) (omega (arith, e .1)) ∙ e .2));
+    };
+  }
+    where
+      not-x : (j : ℕ) → Free v j → j ≢ x
+      not-x j b q = nz (ap (λ (i : ℕ). wordOf (v .table i)) (sym q) ∙ b .word)
+
+      go : (k : ℕ) → k ≤ r .long → walk (next v') (v' .head) k ≡ walk (next v) (v .head) k
+      go k l =
+          ap (λ (i : ℕ). walk (next v') i k) head
+          ∙ walk-same (next v) (next v') (v .head) (r .long) (λ k l. (let b = r .chain .each k l in ap linkOf (free-table _ (not-x _ b) b))) k l
+
+  module _ (head : v .head ≡ x) (moved : v' .head ≡ linkOf (v .table x)) where
+    module _ (long : ℕ) (ch : FreeChain v (suc long)) where
+      not-head : (j : ℕ) → j < long → walk (next v) (v .head) (suc j) ≢ x
+      not-head j lj q =
+          walk-once (next v) (v .head) (suc long) (ch .ends) (λ k l. ch .each k l .low) (suc j) (omega arith) 0 (omega arith) (walk-none (next v) (v .head) ∙ head ∙ sym q)
+
+      behind-head : (k : ℕ) → k ≤ long → walk (next v') (v' .head) k ≡ walk (next v) (v .head) (suc k)
+      behind-head k l =
+          ap (λ (i : ℕ). walk (next v') i k) (moved ∙ ap (next v) (sym head))
+          ∙ walk-same (next v) (next v') (next v (v .head)) long
+          (λ j lj. ap linkOf (rw (walk-tail (next v) (v .head) j) (free-table _ (not-head j lj) (ch .each (suc j) (omega arith))))) k l
+          ∙ walk-tail (next v) (v .head) k
+
+      pop-chain : FreeChain v' long
+      pop-chain = record {
+        ends = behind-head long (omega arith) ∙ ch .ends;
+        each = λ k l. rw (behind-head k (omega arith)) (let b = ch .each (suc k) (omega arith) in begins-there _ (b .low) (b .high) (not-head k l) 0 b);
+        every = λ j b. (let o = free-was j b in let e = ch .every j (o .1) in go j (o .0) (e .0) (e .1) (e .2));
+      }
+        where
+          go : (j : ℕ) → j ≢ x → (k : ℕ) → k < suc long → walk (next v) (v .head) k ≡ j → (k : ℕ) × (k < long) × (walk (next v') (v' .head) k ≡ j)
+          go j ne zero l e = absurd (ne (sym e ∙ walk-none (next v) (v .head) ∙ head))
+          go j ne (suc k) l e = (k, omega arith, behind-head k (omega arith) ∙ e)
+
+    pub pop-R4 : R4 v → R4 v'
+    pop-R4 r = record { own = own-all (r .own); long = r .long - 1; chain = at (r .long) (r .chain) }
+      where
+        at : (n : ℕ) → FreeChain v n → FreeChain v' (n - 1)
+        at zero ch = absurd (let z : x ≡ 0 = sym head ∙ sym (walk-none (next v) (v .head)) ∙ ch .ends in omega (arith, h .low))
+        at (suc n) ch = let e : suc n - 1 ≡ n = omega arith in rw e (pop-chain n ch)
+
+  -- ---- R5: f's own chain is given
+
+  module _ (p n : ℕ) (ne : p ≢ f) (par : Parent v p) (ch : FileChain v p n) where
+    other-stays : (k : ℕ) → k < suc n → Stays v v' (walk (next v) p k)
+    other-stays k l =
+        let b = member-begins v (h .few) p n par ch k l .1 in
+        stays-same v v' _ (other-table _ p (b .low) (b .high) (par .low) ne (member-file v (h .few) p n par ch k l))
+
+    other-walk : (k : ℕ) → k ≤ suc n → walk (next v') p k ≡ walk (next v) p k
+    other-walk = walk-stays v v' (h .indexes) p n ch other-stays
+
+    other-chain : FileChain v' p n
+    other-chain = chain-stays v v' (h .indexes) p n ch other-stays
+
+  pub changed-R5 : (r : R5 v) (m : ℕ) → FileChain v' f m → ((c : ℕ) → Child v' c → parentOf (v' .table c) ≡ f → Stands v' f m c)
+      → (Child v' x → (j : ℕ) × (j < slotsOf x (v' .table x)) × Used x (v' .table x) j) → R5 v'
+  changed-R5 r m chain stands one = record {
+    long = λ p. cond (eqb p f) m (r .long p);
+    chain = λ p q. elim (ℕ-discrete p f) [
+      | yes e ↦ rw (eq-eqb p f e, e) chain
+      | no ne ↦ (let o = parent-was p ne q in rw (ne-eqb p f ne) (other-chain p (r .long p) ne o (r .chain p o)))
+    ];
+    stands = λ c q. elim (ℕ-discrete (parentOf (v' .table c)) f) [
+      | yes e ↦ rw (e, eq-eqb f f refl) (stands c q e)
+      | no ne ↦ rw (ne-eqb (parentOf (v' .table c)) f ne) (other-stands-at c ne q)
+    ];
+    one = λ c q. elim (ℕ-discrete c x) [ yes e ↦ rw e (one (rw e at q)) | no ne ↦ some c ne q ];
+  }
+    where
+      few' : v' .indexes ≤ 4096
+      few' = rw (h .indexes) (h .few)
+
+      parent-was : (p : ℕ) → p ≢ f → Parent v' p → Parent v p
+      parent-was p ne q =
+          begins-was p (q .low) (rw (h .indexes) at (q .high)) (λ e. ne (sym (parent-file v' p q) ∙ ap (λ (i : ℕ). fileOf i (v' .table i)) e ∙ h .now)) p q
+
+      other-stands-at : (c : ℕ) → parentOf (v' .table c) ≢ f → Child v' c → Stands v' (parentOf (v' .table c)) (r .long (parentOf (v' .table c))) c
+      other-stands-at c ne q =
+          let hi : c ≤ v .indexes = rw (h .indexes) at (q .high) in
+          let nx : c ≢ x = λ e. ne (sym (child-file v' c few' q) ∙ ap (λ (i : ℕ). fileOf i (v' .table i)) e ∙ h .now) in
+          let w = begins-was c (q .low) hi nx (minus c) q in
+          let o = r .stands c w in
+          let p = parentOf (v .table c) in
+          let np : p ≢ f = λ e. ne (parent-there c (q .low) hi nx ∙ e) in
+          rw (parent-there c (q .low) hi nx) (record {
+            parent = begins-there p (o .parent .low) (o .parent .high) (parent-other p (o .parent) np) p (o .parent);
+            place = o .place;
+            below = o .below;
+            here = other-walk p (r .long p) np (o .parent) (r .chain p (o .parent)) (suc (o .place)) (omega (arith, o .below)) ∙ o .here;
+          })
+
+      some : (c : ℕ) → c ≢ x → Child v' c → (j : ℕ) × (j < slotsOf c (v' .table c)) × Used c (v' .table c) j
+      some c nx q =
+          let hi : c ≤ v .indexes = rw (h .indexes) at (q .high) in
+          let o = r .one c (begins-was c (q .low) hi nx (minus c) q) in
+          (o .0, rw (slots-there c (q .low) hi nx) (o .1), rw (start-there c (q .low) hi nx (o .0) (o .1), count-there c (q .low) hi nx (o .0) (o .1)) (o .2))
+
+  -- ---- R6, R8 and what lies in zones of one type
+
+  pub changed-R6 : Shapely v' f x (v' .table x) → Each (λ i. Shapely v f i (v .table i)) 1 (v .indexes + 1) → Each (λ i. Shapely v' f i (v' .table i)) 1 (v' .indexes + 1)
+  changed-R6 new r j l lo =
+      let hi : j ≤ v .indexes = omega (arith, h .indexes) in
+      elim (ℕ-discrete j x) [ yes e ↦ rw e new | no ne ↦ shapely-there j lo hi ne (r j (omega arith) lo) ]
+
+  -- sums over the tables change by x's part
+  pub tally-at : (g : ℕ → List ℕ → ℕ) → ((j : ℕ) → 1 ≤ j → j ≤ v .indexes → j ≢ x → g j (v' .table j) ≡ g j (v .table j))
+      → tally v' g + g x (v .table x) ≡ tally v g + g x (v' .table x)
+  unfolding tally
+  tally-at g same =
+      let q : x - 1 + 1 ≡ x = omega (arith, h .low) in
+      let e = sum-at (v .indexes) (x - 1) (λ k. g (k + 1) (v' .table (k + 1))) (λ k. g (k + 1) (v .table (k + 1))) (omega (arith, h .low, h .high))
+      (λ k l ne. same (k + 1) (omega arith) (omega arith) (omega arith)) in
+      rw (h .indexes) (rw q at e)
+
+  pub pointers-at : (s : ℕ) → pointersOver v' s + overOf x (v .table x) s ≡ pointersOver v s + overOf x (v' .table x) s
+  unfolding pointersOver
+  pointers-at s = tally-at (λ i t. overOf i t s) (λ j lo hi ne. over-there j lo hi ne s)
+
+  pub sectors-at : fileSectors v' f + onlyIf (eqb (fileOf x (v .table x)) f) (sectorsOf x (v .table x)) ≡ fileSectors v f + sectorsOf x (v' .table x)
+  unfolding fileSectors
+  sectors-at =
+      tally-at (λ i t. onlyIf (eqb (fileOf i t) f) (sectorsOf i t))
+      (λ j lo hi ne. ap₂ (λ (a c : ℕ). onlyIf (eqb a f) c) (file-there j lo hi ne) (sectors-there j lo hi ne))
+      ∙ ap (λ (n : ℕ). tally v (λ i t. onlyIf (eqb (fileOf i t) f) (sectorsOf i t)) + n) (only-eq (fileOf x (v' .table x)) f (sectorsOf x (v' .table x)) (h .now))
+
+  module _ (r6 : Each (λ i. Shapely v f i (v .table i)) 1 (v .indexes + 1)) where
+    under-run : (i j s : ℕ) → Under v i j s → Run v (startOf i (v .table i) j) (countOf i (v .table i) j)
+    under-run i j s u = r6 i (omega (arith, u .high)) (u .low) .used j (u .slot) (omega (arith, u .from, u .to))
+
+    pub under-zone : (i j s : ℕ) → Under v i j s → v' .zone (zoneOf s) ≡ v .zone (zoneOf s)
+    under-zone i j s u = ground-zone v v' (h .ground) s (omega (arith, under-run i j s u .high, u .to))
+
+    pub under-was : (i j s : ℕ) → i ≢ x → Under v' i j s → Under v i j s
+    under-was i j s ne u =
+        let hi : i ≤ v .indexes = rw (h .indexes) at (u .high) in
+        let l : j < slotsOf i (v .table i) = rw (slots-there i (u .low) hi ne) at (u .slot) in
+        record { low = u .low; high = hi; slot = l; from = rw (start-there i (u .low) hi ne j l) at (u .from); to = rw (start-there i (u .low) hi ne j l, count-there i (u .low) hi ne j l) at (u .to) }
+
+    pub changed-types : (t : ℕ) → InType v f t → ((j s : ℕ) → Under v' x j s → v' .zone (zoneOf s) .ztype ≡ t) → InType v' f t
+    changed-types t all new i j s e u = elim (ℕ-discrete i x) [
+      | yes q ↦ new j s (rw q at u)
+      | no ne ↦ (let w = under-was i j s ne u in rw (under-zone i j s w) (all i j s (sym (file-there i (w .low) (w .high) ne) ∙ e) w))
+    ]
+
+    module _ (p : ℕ) (lp : 1 ≤ p) (ne : p ≢ f) where
+      file-part : (j : ℕ) → 1 ≤ j → j ≤ v .indexes
+          → onlyIf (eqb (fileOf j (v' .table j)) p) (sectorsOf j (v' .table j)) ≡ onlyIf (eqb (fileOf j (v .table j)) p) (sectorsOf j (v .table j))
+      file-part j lo hi = elim (ℕ-discrete (fileOf j (v .table j)) p) [
+        | yes e ↦ ap (λ (t : List ℕ). onlyIf (eqb (fileOf j t) p) (sectorsOf j t)) (other-table j p lo hi lp ne e)
+        | no nq ↦ only-ne (fileOf j (v' .table j)) p _ (λ e. nq (other-was j p lo hi ne e)) ∙ sym (only-ne (fileOf j (v .table j)) p _ nq)
+      ]
+
+      file-sectors : fileSectors v' p ≡ fileSectors v p
+      unfolding fileSectors tally
+      file-sectors = rw (h .indexes) (sum-same (v .indexes) _ _ (λ k l. file-part (k + 1) (omega arith) (omega arith)))
+
+      module _ (par : Parent v p) where
+        same : v' .table p ≡ v .table p
+        same = other-table p p (par .low) (par .high) lp ne (parent-file v p par)
+
+        first-under : Under v p 0 (startOf p (v .table p) 0)
+        first-under =
+            let shape = r6 p (omega (arith, par .high)) (par .low) in
+            let l : 0 < slotsOf p (v .table p) = omega (arith, slots-parent p (v .table p) (λ z. omega (arith, par .word)) (par .word)) in
+            let run = shape .used 0 l (shape .one (par .word) ne) in
+            record { low = par .low; high = par .high; slot = l; from = omega arith; to = omega (arith, run .some) }
+
+        file-type : fileType v' p ≡ fileType v p
+        unfolding fileType
+        file-type =
+            ap (λ (t : List ℕ). v' .zone (zoneOf (startOf p t 0)) .ztype) same ∙ ap (λ (e : ZoneEntry). e .ztype) (under-zone p 0 _ first-under)
+
+        file-one : OneType v p → OneType v' p
+        file-one o i j s e u =
+            let hi : i ≤ v .indexes = rw (h .indexes) at (u .high) in
+            let w = under-was i j s (λ q. ne (sym e ∙ ap (λ (n : ℕ). fileOf n (v' .table n)) q ∙ h .now)) u in
+            rw (under-zone i j s w, file-type) (o i j s (other-was i p (u .low) hi ne e) w)
+
+        other-file : File v p (v .table p) → File v' p (v' .table p)
+        other-file o = rw same (record {
+          name = o .name;
+          least = o .least;
+          most = rw file-sectors (o .most);
+          fixed = o .fixed;
+          variable = λ e. file-one (o .variable e);
+          weights = o .weights;
+          both = o .both;
+          created = o .created;
+          changed = o .changed;
+        })
+
+    pub changed-R8 : ((p : ℕ) → p < v .indexes + 1 → 1 ≤ p → p ≢ f → FileLaw v p) → (p : ℕ) → p < v' .indexes + 1 → 1 ≤ p → p ≢ f → FileLaw v' p
+    changed-R8 r p l lo ne w =
+        let hi : p ≤ v .indexes = omega (arith, h .indexes) in
+        let q : Parent v' p = record { low = lo; high = rw (h .indexes) hi; word = w } in
+        let e = other-table p p lo hi lo ne (other-was p p lo hi ne (parent-file v' p q)) in
+        let par : Parent v p = record { low = lo; high = hi; word = sym (ap wordOf e) ∙ w } in
+        other-file p lo ne par (r p (omega arith) lo ne (par .word))
+
+  -- ---- R9
+
+  counts-there : (j : ℕ) → 1 ≤ j → j ≤ v .indexes → j ≢ x
+      → Ones j (v' .table j) (activeOne j (v .table j)) (deletedOne j (v .table j)) (freeOne j (v .table j)) (systemOne j (v .table j)) (directoryOne j (v .table j))
+  counts-there j lo hi ne = ones-same j (v .table j) (v' .table j) (word-there j lo hi ne) (λ e. u16-kept 44 (h .kept j lo hi ne) (inl (omega arith)))
+
+  -- a free table that comes off the free chain
+  pub free-less : Free v x → v' .free ≡ v .free - 1 → R9 v → v' .free + freeOne x (v .table x) ≡ v .free + freeOne x (v' .table x)
+  free-less b e r =
+      let old = free-yes x (v .table x) (b .word) in
+      let new = free-no x (v' .table x) (λ z. ⊎-elim (λ w. omega (arith, h .low)) (λ w. omega (arith, h .few, h .high)) (h .word)) in
+      omega (arith, r .free, tally-at freeOne (λ j lo hi ne. counts-there j lo hi ne .free))
+
+  -- the counts change by x's part
+  pub changed-R9 : (a b c d e a' b' c' d' e' : ℕ) → Ones x (v .table x) a b c d e → Ones x (v' .table x) a' b' c' d' e'
+      → v' .active + a ≡ v .active + a' → v' .deleted + b ≡ v .deleted + b' → v' .free + c ≡ v .free + c' → v' .system + d ≡ v .system + d' → v' .directory + e ≡ v .directory + e'
+      → v' .flag ≡ v .flag → R9 v → R9 v'
+  changed-R9 a b c d e a' b' c' d' e' old new active deleted free system directory flag r = record {
+    active = omega (arith, r .active, tally-at activeOne (λ j lo hi ne. counts-there j lo hi ne .active));
+    deleted = omega (arith, r .deleted, tally-at deletedOne (λ j lo hi ne. counts-there j lo hi ne .deleted));
+    free = omega (arith, r .free, tally-at freeOne (λ j lo hi ne. counts-there j lo hi ne .free));
+    system = omega (arith, r .system, tally-at systemOne (λ j lo hi ne. counts-there j lo hi ne .system));
+    directory = omega (arith, r .directory, tally-at directoryOne (λ j lo hi ne. counts-there j lo hi ne .directory));
+    flag = rw flag (r .flag);
+  }

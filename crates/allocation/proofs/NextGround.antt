@@ -1,0 +1,147 @@
+-- The choice of blocks sees zone entries and sectors only: on the same ground it is the same choice. Assumes nothing.
+use mathlib.Core.Path.{_≡_, refl, sym, ap, ap₂, _∙_}
+use mathlib.Core.Logic.{⊎-elim, inl, inr}
+use mathlib.Core.List.{List}
+use Prim.Native.Nat.{ℕ, suc, _+_, _-_, _*_, _≤_, _<_}
+use native.Mathlib.Nat.{one-le-pow, div-mul-le-self}
+use native.Mathlib.Decide.{ℕ-discrete, decLt}
+use native.Mathlib.Omega.{arith}
+use lib.Dec.{eqb, ltb}
+use Rattle.field.specs.Sum.{sumTo}
+use Rattle.field.proofs.Sums.{sum-same}
+use Rattle.tables.specs.declared.zone.ZoneEntry.{ZoneEntry}
+use Rattle.tables.specs.Kinds.{firstOf}
+use Rattle.tables.specs.Blocks.{blockOf}
+use Rattle.tables.specs.Open.{isOpen, openZones}
+use Rattle.tables.specs.Room.{perZone, spareIn, spareOf, lackOf, Enough}
+use Rattle.tables.specs.Rules.R1.{ceil}
+use Rattle.tables.specs.Same.{Ground}
+use Rattle.tables.specs.Views.{View, cov, onlyIf}
+use Rattle.tables.proofs.BlockLaws.{block-of, block-in, block-end}
+use Rattle.tables.proofs.SameLaws.{blocks-same, ground-R2, ground-R3}
+use Rattle.allocation.specs.declared.choice.Found.{Found}
+use Rattle.allocation.specs.Choice.{begun, lowestBegun, lowestOpen, clear, lowestClear, begunBlock, openBlock, nextBlock, sectorOf}
+use Rattle.allocation.specs.Stock.{counted, Stocked, Proper, Behind}
+use Rattle.allocation.specs.Steps.{Choosable, Taken}
+use Rattle.allocation.proofs.SearchLaws.{find-same}
+use Rattle.allocation.proofs.NextLaws.{begun-low, begun-next, open-next}
+
+pub ground-refl : (v : View) → Ground v v
+ground-refl v = record { zones = refl; zone = λ z lo hi. refl; bit = λ s l. refl }
+
+pub ground-sym : {v v' : View} → Ground v v' → Ground v' v
+ground-sym g = record {
+  zones = sym (g .zones);
+  zone = λ z lo hi. sym (g .zone z lo (rw (g .zones) at hi));
+  bit = λ s l. sym (g .bit s (rw (g .zones) at l));
+}
+
+pub ground-trans : {u v w : View} → Ground u v → Ground v w → Ground u w
+ground-trans g h = record {
+  zones = h .zones ∙ g .zones;
+  zone = λ z lo hi. h .zone z lo (rw (g .zones) hi) ∙ g .zone z lo hi;
+  bit = λ s l. h .bit s (rw (g .zones) l) ∙ g .bit s l;
+}
+
+-- a block's first sector is in its zone, whatever its size
+block-first : (t j : ℕ) → j < perZone t → j * blockOf t < 1024
+unfolding blockOf
+block-first t j l = omega (arith, one-le-pow (t - 3) 4 (omega arith), block-end j (perZone t) (blockOf t) l, div-mul-le-self 1024 (blockOf t))
+
+module _ (v v' : View) (g : Ground v v') where
+  -- ---- zones and blocks
+
+  begun-ground : (t z : ℕ) → 1 ≤ z → z ≤ v .zones → begun v' t z ≡ begun v t z
+  unfolding begun
+  begun-ground t z lo hi = ap (λ (e : ZoneEntry). ltb 0 (spareIn t e)) (g .zone z lo hi)
+
+  clear-ground : (t z j : ℕ) → 1 ≤ z → z ≤ v .zones → j < perZone t → clear v' t z j ≡ clear v t z j
+  unfolding clear
+  clear-ground t z j lo hi l = ap (λ (b : ℕ). eqb b 0) (g .bit (firstOf z + j * blockOf t) (omega (arith, block-first t j l)))
+
+  -- what is summed over the zones
+  zones-ground : (f : ZoneEntry → ℕ) → sumTo (v' .zones - 2) (λ i. f (v' .zone (i + 2))) ≡ sumTo (v .zones - 2) (λ i. f (v .zone (i + 2)))
+  zones-ground f = rw (g .zones) (sum-same (v .zones - 2) _ _ (λ i l. ap f (g .zone (i + 2) (omega arith) (omega arith))))
+
+  -- ---- the next block
+
+  lowest-begun : (t : ℕ) → lowestBegun v' t ≡ lowestBegun v t
+  unfolding lowestBegun
+  lowest-begun t = rw (g .zones) (find-same (begun v t) (begun v' t) (v .zones - 2) 2 (λ z hi lo. begun-ground t z (omega arith) (omega arith)))
+
+  lowest-open : lowestOpen v' ≡ lowestOpen v
+  unfolding lowestOpen
+  lowest-open = rw (g .zones) (find-same (λ z. isOpen (v .zone z)) (λ z. isOpen (v' .zone z)) (v .zones - 2) 2 (λ z hi lo. ap isOpen (g .zone z (omega arith) (omega arith))))
+
+  begun-block : (t z : ℕ) → 1 ≤ z → z ≤ v .zones → begunBlock v' t z ≡ begunBlock v t z
+  unfolding begunBlock lowestClear
+  begun-block t z lo hi =
+      let n = find-same (clear v t z) (clear v' t z) (perZone t) 0 (λ j l _. clear-ground t z j lo hi (omega arith)) in
+      ap₂ (λ (n : ℕ) (e : ZoneEntry). record { zone = record { 0 = z }; number = n; free = e .free - 1 }) n (g .zone z lo hi)
+
+  pub next-ground : (t : ℕ) → nextBlock v' t ≡ nextBlock v t
+  unfolding openBlock
+  next-ground t =
+      let e = lowest-begun t in
+      elim (decLt (lowestBegun v t) (v .zones)) [
+        | yes h ↦ begun-next v' t (rw (e, g .zones) h) ∙ ap (begunBlock v' t) e
+            ∙ begun-block t _ (omega (arith, begun-low v t)) (omega arith) ∙ sym (begun-next v t h)
+        | no h ↦ open-next v' t (rw (e, g .zones) (omega arith))
+            ∙ ap (λ (z : ℕ). record { zone = record { 0 = z }; number = 0; free = perZone t - 1 }) lowest-open ∙ sym (open-next v t (omega arith))
+      ]
+
+  -- ---- what is asked of the books and of a block
+
+  lack-ground : (t n : ℕ) → lackOf v t n ≡ lackOf v' t n
+  unfolding lackOf spareOf
+  lack-ground t n = ap (λ (s : ℕ). ceil (n - s) (perZone t)) (sym (zones-ground (spareIn t)))
+
+  open-ground : openZones v' ≡ openZones v
+  unfolding openZones
+  open-ground = zones-ground (λ e. onlyIf (isOpen e) 1)
+
+  pub enough-ground : (c : ℕ → ℕ) → Enough v c → Enough v' c
+  enough-ground c h =
+      omega (arith, h, open-ground, sum-same 6 (λ i. lackOf v (i + 3) (c (i + 3))) (λ i. lackOf v' (i + 3) (c (i + 3))) (λ i _. lack-ground (i + 3) (c (i + 3))))
+
+  pub stocked-ground : (ts : List ℕ) → Stocked v ts → Stocked v' ts
+  stocked-ground ts s = record { r2 = ground-R2 v v' g (s .r2); r3 = ground-R3 v v' g (s .r3); typed = s .typed; enough = enough-ground (counted ts) (s .enough) }
+
+  pub proper-ground : (t : ℕ) (k : Found) → Proper v t k → Proper v' t k
+  proper-ground t k p = record { typed = p .typed; low = p .low; high = rw (g .zones) (p .high); within = p .within; free = p .free }
+
+  pub behind-ground : (t : ℕ) (k : Found) → Behind v t k → Behind v' t k
+  behind-ground t k b = record {
+    low = b .low;
+    high = rw (g .zones) (b .high);
+    zones = λ z l lo. begun-ground t z (omega arith) (omega (arith, b .high)) ∙ b .zones z l lo;
+    blocks = λ j l. clear-ground t (k .zone .0) j (omega (arith, b .low)) (b .high) (omega (arith, b .number)) ∙ b .blocks j l;
+    number = b .number;
+  }
+
+  pub choosable-ground : (t : ℕ) (k : Found) → Choosable v t k → Choosable v' t k
+  unfolding sectorOf
+  choosable-ground t k c =
+      let p = c .proper in
+      let size = block-of t (p .typed) in
+      let i = block-in (k .number) (blockOf t) size (p .within) in
+      let same : (n : ℕ) → n < 1024 → v' .bit (firstOf (k .zone .0) + n) ≡ v .bit (firstOf (k .zone .0) + n) = λ n l. g .bit _ (omega (arith, p .low, p .high)) in
+      record {
+        proper = proper-ground t k p;
+        clear = λ j l. g .bit _ (omega (arith, p .low, p .high)) ∙ c .clear j l;
+        was = blocks-same (v .bit) (v' .bit) (firstOf (k .zone .0)) (blockOf t) size same (suc (k .free)) (c .was);
+        kept = ⊎-elim (λ e. inl (ap (λ (e : ZoneEntry). e .ztype) (g .zone (k .zone .0) (omega (arith, p .low)) (omega (arith, p .high))) ∙ e)) (λ h. inr (λ n l. same n l ∙ h n l)) (c .kept);
+      }
+
+-- the same block taken of both
+pub taken-ground : (v v' w w' : View) (t : ℕ) (k : Found) → Ground v w → Taken v v' t k → Taken w w' t k → Ground v' w'
+taken-ground v v' w w' t k g a b = record {
+  zones = b .zones ∙ g .zones ∙ sym (a .zones);
+  zone = λ z lo hi. (let hi' : z ≤ v .zones = rw (a .zones) at hi in
+      elim (ℕ-discrete z (k .zone .0)) [
+        | yes e ↦ rw e (b .here ∙ sym (a .here))
+        | no ne ↦ b .there z lo (rw (g .zones) hi') ne ∙ g .zone z lo hi' ∙ sym (a .there z lo hi' ne)
+      ]);
+  bit = λ s l. (let l' : s < 1024 * v .zones = rw (a .zones) at l in
+      b .bit s (rw (g .zones) l') ∙ ap (λ (x : ℕ). x + cov (sectorOf t k) (blockOf t) s) (g .bit s l') ∙ sym (a .bit s l'));
+}

@@ -1,0 +1,264 @@
+-- The next block: where there is room it is a free one, and none of its type is free before it. Assumes nothing.
+use mathlib.Core.Path.{_≡_, refl, sym, ap, _∙_}
+use mathlib.Core.Logic.{_≢_, _⊎_, inl, inr, ⊎-elim}
+use mathlib.Core.Bool.{Bool, true, false, cond}
+use mathlib.Core.List.{List, _∷_}
+use Prim.Native.Nat.{ℕ, suc, _+_, _-_, _*_, _/_, _≤_, _<_}
+use native.Mathlib.Nat.{mul-zero}
+use native.Mathlib.Decide.{decLt}
+use native.Mathlib.Omega.{arith}
+use lib.Dec.{eqb}
+use borrow.Author.Tests.{eqb-true, eqb-false, eq-eqb, ne-eqb, ltb-true, ltb-false, lt-ltb, le-ltb}
+use Rattle.field.proofs.Sums.{sum-zero, sum-one, sum-le, sum-some, sum-part}
+use Rattle.tables.specs.declared.zone.ZoneEntry.{ZoneEntry}
+use Rattle.tables.specs.Kinds.{firstOf}
+use Rattle.tables.specs.Blocks.{Typed, Block, blockOf}
+use Rattle.tables.specs.Open.{isOpen, openZones}
+use Rattle.tables.specs.Room.{perZone, spareIn, spareOf, lackOf}
+use Rattle.tables.specs.Rules.R3.{Blocks}
+use Rattle.tables.specs.Views.{View, onlyIf}
+use Rattle.tables.proofs.BlockLaws.{block-of, block-in}
+use Rattle.tables.proofs.ChoiceLaws.{ceil-enough}
+use Rattle.tables.proofs.LackLaws.{some-blocks}
+use Rattle.tables.proofs.RoomLaws.{open-clear}
+use Rattle.allocation.specs.declared.choice.Found.{Found}
+use Rattle.allocation.specs.Choice.{begun, lowestBegun, lowestOpen, clear, lowestClear, begunBlock, openBlock, nextBlock, sectorOf}
+use Rattle.allocation.specs.Stock.{counted, AllTyped, Stocked, Proper, Behind}
+use Rattle.allocation.specs.Steps.{Choosable, Taken}
+use Rattle.allocation.proofs.SearchLaws.{find-low, find-none, find-passes, find-some}
+
+-- ---- the two ways in which a block is next
+
+-- it is of a zone of its type, the lowest with a free block, and the lowest free one there
+pub record OfBegun (v : View) (t : ℕ) (k : Found) : Type 0 where
+  pub low : 2 ≤ k .zone .0
+  pub high : k .zone .0 < v .zones
+  pub closed : isOpen (v .zone (k .zone .0)) ≡ false
+  pub ztype : v .zone (k .zone .0) .ztype ≡ t
+  pub free : v .zone (k .zone .0) .free ≡ suc (k .free)
+  pub within : k .number < perZone t
+  pub first : v .bit (sectorOf t k) ≡ 0
+  pub zones : (z : ℕ) → z < k .zone .0 → 2 ≤ z → begun v t z ≡ false
+  pub blocks : (j : ℕ) → j < k .number → clear v t (k .zone .0) j ≡ false
+
+-- no zone of its type has a free block, and it is block 0 of an open one
+pub record OfOpen (v : View) (t : ℕ) (k : Found) : Type 0 where
+  pub low : 2 ≤ k .zone .0
+  pub high : k .zone .0 < v .zones
+  pub opened : isOpen (v .zone (k .zone .0)) ≡ true
+  pub none : (z : ℕ) → z < v .zones → 2 ≤ z → begun v t z ≡ false
+  pub number : k .number ≡ 0
+  pub free : suc (k .free) ≡ perZone t
+
+-- what a zone's entry says that has free blocks of type t without being open
+pub begun-is : (t : ℕ) (e : ZoneEntry) → 0 < spareIn t e → (isOpen e ≡ false) × (e .ztype ≡ t) × (0 < e .free)
+unfolding spareIn onlyIf
+begun-is t e h = go (isOpen e) (eqb (e .ztype) t) refl refl h
+  where
+    go : (o a : Bool) → isOpen e ≡ o → eqb (e .ztype) t ≡ a → 0 < cond o 0 (onlyIf a (e .free)) → (isOpen e ≡ false) × (e .ztype ≡ t) × (0 < e .free)
+    go true a p q l = absurd (omega arith)
+    go false true p q l = (p, eqb-true _ _ q, l)
+    go false false p q l = absurd (omega arith)
+
+-- a clear zone's blocks, of whatever size, are free
+pub blocks-clear : (bit : ℕ → ℕ) (from size : ℕ) → Block size → ((n : ℕ) → n < 1024 → bit (from + n) ≡ 0) → Blocks bit from size (1024 / size)
+blocks-clear bit from size block h = record {
+  whole = λ k l j lj. (let e : from + k * size + j ≡ from + (k * size + j) = omega arith in
+      ap bit e ∙ h (k * size + j) (omega (arith, block-in k size block l)) ∙ sym (first k l));
+  number = sum-one (1024 / size) _ (λ k l. ap (λ (x : ℕ). 1 - x) (first k l));
+}
+  where
+    first : (k : ℕ) → k < 1024 / size → bit (from + k * size) ≡ 0
+    first k l = h (k * size) (omega (arith, block-in k size block l, block .some))
+
+-- one more of its own type, and none of another
+pub counted-own : (t : ℕ) (ts : List ℕ) → counted (t ∷ ts) t ≡ suc (counted ts t)
+unfolding counted onlyIf
+counted-own t ts = rw (eq-eqb t t refl) (omega arith)
+
+pub counted-other : (t u : ℕ) (ts : List ℕ) → t ≢ u → counted (t ∷ ts) u ≡ counted ts u
+unfolding counted onlyIf
+counted-other t u ts ne = rw (ne-eqb t u ne) (omega arith)
+
+-- what is free and the zones that are lacked are enough
+lack-more : (v : View) (t n : ℕ) → Typed t → n ≤ spareOf v t + perZone t * lackOf v t n
+unfolding lackOf
+lack-more v t n typed = omega (arith, ceil-enough (n - spareOf v t) (perZone t) (some-blocks t typed))
+
+-- where no zone of a type is begun, none has free blocks of it
+pub none-spare : (v : View) (t : ℕ) → ((z : ℕ) → z < v .zones → 2 ≤ z → begun v t z ≡ false) → spareOf v t ≡ 0
+unfolding spareOf begun
+none-spare v t h = sum-zero (v .zones - 2) _ (λ i l. omega (arith, ltb-false 0 (spareIn t (v .zone (i + 2))) (h (i + 2) (omega arith) (omega arith))))
+
+only-true : (b : Bool) → 0 < onlyIf b 1 → b ≡ true
+unfolding onlyIf
+only-true true h = refl
+only-true false h = absurd (omega arith)
+
+module _ (v : View) where
+  open-low : 2 ≤ lowestOpen v
+  unfolding lowestOpen
+  open-low = find-low (λ z. isOpen (v .zone z)) (v .zones - 2) 2
+
+  open-found : 0 < openZones v → (lowestOpen v < v .zones) × (isOpen (v .zone (lowestOpen v)) ≡ true)
+  unfolding openZones lowestOpen
+  open-found h =
+      let some = sum-some (v .zones - 2) _ h in
+      let l = find-some (λ z. isOpen (v .zone z)) (v .zones - 2) 2 (some .0 + 2) (omega arith) (omega (arith, some .1)) (only-true _ (some .2)) in
+      (omega (arith, l, some .1), find-passes (λ z. isOpen (v .zone z)) (v .zones - 2) 2 l)
+
+module _ (v : View) (t : ℕ) where
+  pub begun-low : 2 ≤ lowestBegun v t
+  unfolding lowestBegun
+  begun-low = find-low (begun v t) (v .zones - 2) 2
+
+  pub begun-next : lowestBegun v t < v .zones → nextBlock v t ≡ begunBlock v t (lowestBegun v t)
+  unfolding nextBlock
+  begun-next h = rw (lt-ltb (lowestBegun v t) (v .zones) h)
+
+  pub open-next : v .zones ≤ lowestBegun v t → nextBlock v t ≡ openBlock v t
+  unfolding nextBlock
+  open-next h = rw (le-ltb (lowestBegun v t) (v .zones) h)
+
+  module _ (ts : List ℕ) (s : Stocked v (t ∷ ts)) where
+    pub next-typed : Typed t
+    unfolding AllTyped
+    next-typed = s .typed .0
+
+    -- ---- a zone that is begun
+
+    begun-blocks : (z : ℕ) → 2 ≤ z → z < v .zones → v .zone z .ztype ≡ t → Blocks (v .bit) (firstOf z) (blockOf t) (v .zone z .free)
+    begun-blocks z lo hi e = rw e at (s .r3 z hi lo (rw e next-typed))
+
+    -- its free blocks are there
+    clear-some : (z : ℕ) → 2 ≤ z → z < v .zones → v .zone z .ztype ≡ t → 0 < v .zone z .free → lowestClear v t z < perZone t
+    unfolding lowestClear clear
+    clear-some z lo hi e h =
+        let some = sum-some (perZone t) (λ k. 1 - v .bit (firstOf z + k * blockOf t)) (let n = begun-blocks z lo hi e .number in omega arith) in
+        let first : v .bit (firstOf z + some .0 * blockOf t) ≡ 0 = omega (arith, some .2) in
+        omega (arith, find-some (clear v t z) (perZone t) 0 (some .0) (omega arith) (omega (arith, some .1)) (eq-eqb _ 0 first))
+
+    begun-block : lowestBegun v t < v .zones → OfBegun v t (begunBlock v t (lowestBegun v t))
+    unfolding begunBlock lowestBegun begun lowestClear clear sectorOf
+    begun-block h =
+        let z = lowestBegun v t in
+        let lo = begun-low in
+        let is = begun-is t (v .zone z) (ltb-true 0 _ (find-passes (begun v t) (v .zones - 2) 2 (omega arith))) in
+        let l = clear-some z lo h (is .1) (is .2) in
+        record {
+          low = lo;
+          high = h;
+          closed = is .0;
+          ztype = is .1;
+          free = omega (arith, is .2);
+          within = l;
+          first = eqb-true _ 0 (find-passes (clear v t z) (perZone t) 0 (omega arith));
+          zones = λ y ly loy. find-none (begun v t) (v .zones - 2) 2 y ly loy;
+          blocks = λ j lj. find-none (clear v t z) (perZone t) 0 j lj (omega arith);
+        }
+
+    -- ---- an open zone
+
+    none-begun : v .zones ≤ lowestBegun v t → (z : ℕ) → z < v .zones → 2 ≤ z → begun v t z ≡ false
+    unfolding lowestBegun
+    none-begun h z hi lo = find-none (begun v t) (v .zones - 2) 2 z (omega arith) lo
+
+    some-open : spareOf v t ≡ 0 → 0 < openZones v
+    some-open h =
+        let typed = next-typed in
+        let e : t - 3 + 3 ≡ t = omega arith in
+        let part : lackOf v t (counted (t ∷ ts) t) ≤ openZones v = omega (arith, s .enough, rw e at (sum-part 6 (t - 3) (λ i. lackOf v (i + 3) (counted (t ∷ ts) (i + 3))) (omega arith))) in
+        elim (decLt 0 (lackOf v t (counted (t ∷ ts) t))) [
+          | yes l ↦ omega arith
+          | no l ↦ (let z : lackOf v t (counted (t ∷ ts) t) ≡ 0 = omega arith in
+              let m = rw (z, counted-own t ts, h, mul-zero) at (lack-more v t (counted (t ∷ ts) t) typed) in
+              absurd (omega arith))
+        ]
+
+    open-block : v .zones ≤ lowestBegun v t → OfOpen v t (openBlock v t)
+    unfolding openBlock
+    open-block h =
+        let f = open-found v (some-open (none-spare v t (none-begun h))) in
+        record {
+          low = open-low v;
+          high = f .0;
+          opened = f .1;
+          none = none-begun h;
+          number = refl;
+          free = omega (arith, some-blocks t next-typed);
+        }
+
+    pub next-is : OfBegun v t (nextBlock v t) ⊎ OfOpen v t (nextBlock v t)
+    next-is =
+        elim (decLt (lowestBegun v t) (v .zones)) [
+          | yes h ↦ inl (rw (begun-next h) (begun-block h))
+          | no h ↦ inr (rw (open-next (omega arith)) (open-block (omega arith)))
+        ]
+
+    -- ---- either way it may be taken
+
+    begun-choosable : (k : Found) → OfBegun v t k → Choosable v t k
+    unfolding sectorOf
+    begun-choosable k b =
+        let blocks = begun-blocks (k .zone .0) (b .low) (b .high) (b .ztype) in
+        record {
+          proper = record {
+            typed = next-typed;
+            low = b .low;
+            high = b .high;
+            within = b .within;
+            free = omega (arith, b .free, blocks .number, sum-le (perZone t) (λ n. 1 - v .bit (firstOf (k .zone .0) + n * blockOf t)) (λ n l. omega arith));
+          };
+          clear = λ j l. blocks .whole (k .number) (b .within) j l ∙ b .first;
+          was = rw (b .free) at blocks;
+          kept = inl (b .ztype);
+        }
+
+    open-choosable : (k : Found) → OfOpen v t k → Choosable v t k
+    unfolding sectorOf
+    open-choosable k b =
+        let size = block-of t next-typed in
+        let l : k .number < perZone t = omega (arith, b .number, b .free) in
+        let none = open-clear v (s .r2) (k .zone .0) (b .low) (b .high) (s .r3) (b .opened) in
+        record {
+          proper = record { typed = next-typed; low = b .low; high = b .high; within = l; free = omega (arith, b .free) };
+          clear = λ j lj. (let e : firstOf (k .zone .0) + k .number * blockOf t + j ≡ firstOf (k .zone .0) + (k .number * blockOf t + j) = omega arith in
+              ap (v .bit) e ∙ none (k .number * blockOf t + j) (omega (arith, block-in (k .number) (blockOf t) size l)));
+          was = rw (b .free) (blocks-clear (v .bit) (firstOf (k .zone .0)) (blockOf t) size none);
+          kept = inr none;
+        }
+
+    pub next-choosable : Choosable v t (nextBlock v t)
+    next-choosable = ⊎-elim (begun-choosable _) (open-choosable _) next-is
+
+-- ---- and once it is, it is where the next search may begin
+
+below-behind : (v v' : View) (t : ℕ) (k : Found) → Taken v v' t k → Proper v t k
+    → ((z : ℕ) → z < k .zone .0 → 2 ≤ z → begun v t z ≡ false) → ((j : ℕ) → j < k .number → clear v t (k .zone .0) j ≡ false) → Behind v' t k
+unfolding begun clear
+below-behind v v' t k taken p zones blocks = record {
+  low = p .low;
+  high = rw (taken .zones) (let h = p .high in omega arith);
+  zones = λ z l lo. rw (taken .there z (omega arith) (omega (arith, p .high)) (λ e. omega arith)) (zones z l lo);
+  blocks = λ j l. (let i = block-in j (blockOf t) (block-of t (p .typed)) (omega (arith, p .within)) in
+      let set = eqb-false (v .bit (firstOf (k .zone .0) + j * blockOf t)) 0 (blocks j l) in
+      let e = taken .bit (firstOf (k .zone .0) + j * blockOf t) (omega (arith, p .high, p .low)) in
+      ne-eqb (v' .bit (firstOf (k .zone .0) + j * blockOf t)) 0 (λ q. set (omega arith)));
+  number = omega (arith, p .within);
+}
+
+pub taken-behind : (v v' : View) (t : ℕ) (ts : List ℕ) → Stocked v (t ∷ ts) → Taken v v' t (nextBlock v t) → Behind v' t (nextBlock v t)
+taken-behind v v' t ts s taken =
+    let p = next-choosable v t ts s .proper in
+    ⊎-elim (λ b. below-behind v v' t _ taken p (b .zones) (b .blocks))
+    (λ b. below-behind v v' t _ taken p (λ z l lo. b .none z (omega (arith, p .high)) lo) (λ j l. absurd (omega (arith, b .number)))) (next-is v t ts s)
+
+-- it may begin at the lowest of all zones
+pub behind-start : (v : View) (t : ℕ) → 2 ≤ v .zones → Behind v t (record { zone = record { 0 = 2 }; number = 0; free = 0 })
+behind-start v t h = record {
+  low = omega arith;
+  high = h;
+  zones = λ z l lo. absurd (omega arith);
+  blocks = λ j l. absurd (omega arith);
+  number = omega arith;
+}

@@ -1,0 +1,294 @@
+-- A pointer is written in a file's last table: the last one longer, or one beside it. The rules hold as before. Assumes nothing.
+use mathlib.Core.Path.{_≡_, refl, sym, ap, ap₂, _∙_}
+use mathlib.Core.Logic.{_≢_, _⊎_, inl, inr, ⊎-elim}
+use mathlib.Core.List.{List}
+use Prim.Native.Nat.{ℕ, suc, _+_, _-_, _*_, _≤_, _<_}
+use native.Mathlib.Decide.{ℕ-discrete, decLt}
+use native.Mathlib.Omega.{arith}
+use lib.ListN.{getD, length}
+use Rattle.field.specs.Kept.{Kept}
+use Rattle.field.proofs.Frames.{kept-refl}
+use Rattle.field.proofs.Sums.{sum-at}
+use Rattle.field.proofs.NumberLaws.{u16-kept, u32-kept}
+use Rattle.tables.specs.declared.index.Pointer.{Pointer}
+use Rattle.tables.specs.Kinds.{zoneOf}
+use Rattle.tables.specs.Indexes.{wordOf, parentOf, minus, slotsOf, baseOf, startOf, countOf, Used, sectorsOf, fileOf}
+use Rattle.tables.specs.Views.{View, Begins, Parent, Child, walk, next, cov, overOf, Under}
+use Rattle.tables.specs.Rules.R5.{FileChain, Stands, R5}
+use Rattle.tables.specs.Rules.R6.{Run}
+use Rattle.tables.specs.Rules.R9.{freeOne, activeOne, deletedOne, systemOne, directoryOne}
+use Rattle.tables.proofs.ChildLaws.{chain-one}
+use Rattle.tables.proofs.IndexLaws.{slots-in, slots-parent, slots-child, base-parent, base-child}
+use Rattle.tables.proofs.PointerLaws.{cov-cases, cov-in, cov-none, cov-join}
+use Rattle.tables.proofs.CountLaws.{only-eq}
+use Rattle.tables.proofs.SameLaws.{ground-R2, ground-R3}
+use Rattle.allocation.specs.declared.growth.Cursor.{Cursor}
+use Rattle.allocation.specs.Steps.{Written}
+use Rattle.allocation.specs.Held.{Shapely, Held, Ends, InType}
+use Rattle.allocation.proofs.PointerBytes.{word-kept, parent-kept, slots-kept, base-kept, file-kept, start-kept, count-kept, kept-pointer, pointer-start, pointer-count, pointer-read}
+use Rattle.allocation.proofs.ChangeLaws.{Changed, Longer, Stays, stays-same, member-begins, member-file, member-word, ground-zone, ground-run, walk-stays, chain-stays, stay-R4, changed-R5, changed-R6, pointers-at, sectors-at, under-zone, changed-types, changed-R8, ones-same, changed-R9}
+
+-- the pointers of a table begin behind what a child has before them
+pub base-low : (i : ℕ) (t : List ℕ) → 22 ≤ baseOf i t
+base-low i t = elim (ℕ-discrete (wordOf t) i) [ yes e ↦ omega (arith, base-parent i t e) | no ne ↦ omega (arith, base-child i t ne) ]
+
+-- and end before its link, unless it is free
+pub slots-end : (i : ℕ) (t : List ℕ) → wordOf t ≢ 0 → baseOf i t + 6 * slotsOf i t ≡ 124
+slots-end i t nz =
+    elim (ℕ-discrete (wordOf t) i) [
+      | yes e ↦ omega (arith, base-parent i t e, slots-parent i t nz e)
+      | no ne ↦ omega (arith, base-child i t ne, slots-child i t nz ne)
+    ]
+
+-- slot j of file f's last table reads q, which lies over what it lay over before and the n sectors from a on
+module _ (v v' : View) (f at : ℕ) (q : Pointer) (c : Cursor) (w : Written v v' (c .table .0) at q) (few : v .indexes ≤ 4096)
+    (sized : (j : ℕ) → 1 ≤ j → j ≤ v .indexes → length (v .table j) ≡ 128) (e : Ends v f c) (run : Run v (q .start .0) (q .count))
+    (j a n : ℕ) (slot : j < slotsOf (c .table .0) (v .table (c .table .0))) (place : at ≡ baseOf (c .table .0) (v .table (c .table .0)) + 6 * j)
+    (before : (l : ℕ) → l < j → Used (c .table .0) (v .table (c .table .0)) l)
+    (after : (l : ℕ) → l < slotsOf (c .table .0) (v .table (c .table .0)) → j < l → Used (c .table .0) (v .table (c .table .0)) l → ⊥)
+    (lies : (s : ℕ) → cov (q .start .0) (q .count) s ≡ cov (startOf (c .table .0) (v .table (c .table .0)) j) (countOf (c .table .0) (v .table (c .table .0)) j) s + cov a n s)
+    (longer : q .count ≡ countOf (c .table .0) (v .table (c .table .0)) j + n) where
+  abbrev i : ℕ
+  i = c .table .0
+
+  abbrev t : List ℕ
+  t = v .table (c .table .0)
+
+  abbrev t' : List ℕ
+  t' = v' .table (c .table .0)
+
+  i-begins : (x : ℕ) × Begins v i x × (x ≢ 0)
+  i-begins = rw (e .table) at (member-begins v few f (e .long) (e .parent) (e .chain) (e .long) (omega arith))
+
+  i-low : 1 ≤ i
+  i-low = i-begins .1 .low
+
+  i-high : i ≤ v .indexes
+  i-high = i-begins .1 .high
+
+  i-file : fileOf i t ≡ f
+  i-file = rw (e .table) at (member-file v few f (e .long) (e .parent) (e .chain) (e .long) (omega arith))
+
+  i-word : (wordOf t ≡ i) ⊎ (wordOf t ≡ minus i)
+  i-word = rw (e .table) at (member-word v few f (e .long) (e .parent) (e .chain) (e .long) (omega arith))
+
+  behind : 8 ≤ at
+  behind = omega (arith, base-low i t)
+
+  fits : at + 6 ≤ 124
+  fits = omega (arith, slots-in i t)
+
+  kept : Kept t t' at 6
+  kept = rw (w .here) (kept-pointer t at q)
+
+  change : Changed v v' f i
+  change = record {
+    ground = w .ground;
+    indexes = w .indexes;
+    few = few;
+    file = e .parent .low;
+    low = i-low;
+    high = i-high;
+    kept = λ k lo hi ne. rw (w .there k lo hi ne) (kept-refl (v .table k) 124 4);
+    there = λ k lo hi ne nf. w .there k lo hi ne;
+    was = inl i-file;
+    now = file-kept i kept behind ∙ i-file;
+    word = rw (word-kept i kept behind) i-word;
+  }
+
+  -- ---- the table's pointers
+
+  same-slots : slotsOf i t' ≡ slotsOf i t
+  same-slots = slots-kept i kept behind
+
+  other-start : (l : ℕ) → l ≢ j → startOf i t' l ≡ startOf i t l
+  other-start l ne = start-kept i kept behind l (elim (decLt l j) [ yes h ↦ inl (omega arith) | no h ↦ inr (omega arith) ])
+
+  other-count : (l : ℕ) → l ≢ j → countOf i t' l ≡ countOf i t l
+  other-count l ne = count-kept i kept behind l (elim (decLt l j) [ yes h ↦ inl (omega arith) | no h ↦ inr (omega arith) ])
+
+  at-slot : baseOf i t' + 6 * j ≡ at
+  at-slot = omega (arith, base-kept i kept behind)
+
+  new-start : startOf i t' j ≡ q .start .0
+  new-start = rw (at-slot, w .here) (pointer-start t at q (sized i i-low i-high) (omega (arith, fits)))
+
+  new-count : countOf i t' j ≡ q .count
+  new-count = rw (at-slot, w .here) (pointer-count t at q (sized i i-low i-high) (omega (arith, fits)))
+
+  used-to : (l : ℕ) → l < suc j → Used i t' l
+  used-to l h = elim (ℕ-discrete l j) [
+    | yes q ↦ rw q (omega (arith, new-count, run .some))
+    | no ne ↦ omega (arith, before l (omega arith), other-start l ne, other-count l ne)
+  ]
+
+  unused-from : (l : ℕ) → l < slotsOf i t → j < l → Used i t' l → ⊥
+  unused-from l h g u = let ne : l ≢ j = λ q. omega arith in after l h g (rw (other-start l ne, other-count l ne) at u)
+
+  new-over : (s : ℕ) → overOf i t' s ≡ overOf i t s + cov a n s
+  unfolding overOf
+  new-over s =
+      let m = sum-at (slotsOf i t) j (λ l. cov (startOf i t' l) (countOf i t' l) s) (λ l. cov (startOf i t l) (countOf i t l) s) slot
+      (λ l h ne. ap₂ (λ (x y : ℕ). cov x y s) (other-start l ne) (other-count l ne)) in
+      let g : cov (startOf i t' j) (countOf i t' j) s ≡ cov (q .start .0) (q .count) s = ap₂ (λ (x y : ℕ). cov x y s) new-start new-count in
+      rw same-slots (omega (arith, lies s))
+
+  new-sectors : sectorsOf i t' ≡ sectorsOf i t + n
+  unfolding sectorsOf
+  new-sectors =
+      let m = sum-at (slotsOf i t) j (λ l. countOf i t' l) (λ l. countOf i t l) slot (λ l h ne. other-count l ne) in
+      rw same-slots (omega (arith, new-count, longer))
+
+  -- ---- chains
+
+  stays : (k : ℕ) → 1 ≤ k → k ≤ v .indexes → Stays v v' k
+  stays k lo hi = elim (ℕ-discrete k i) [ yes q ↦ rw q here | no ne ↦ stays-same v v' k (w .there k lo hi ne) ]
+    where
+      here : Stays v v' i
+      here = record {
+        link = u32-kept 124 kept (inr (omega (arith, fits)));
+        word = word-kept i kept behind;
+        parent = parent-kept i kept behind;
+        full = λ full l h. elim (decLt l (suc j)) [
+          | yes g ↦ used-to l g
+          | no g ↦ absurd (after l (rw same-slots at h) (omega arith) (full l (rw same-slots at h)))
+        ];
+      }
+
+  member-stays : (k : ℕ) → k < suc (e .long) → Stays v v' (walk (next v) f k)
+  member-stays k l = let b = member-begins v few f (e .long) (e .parent) (e .chain) k l .1 in stays _ (b .low) (b .high)
+
+  walk-here : (k : ℕ) → k ≤ suc (e .long) → walk (next v') f k ≡ walk (next v) f k
+  walk-here = walk-stays v v' (w .indexes) f (e .long) (e .chain) member-stays
+
+  chain : FileChain v' f (e .long)
+  chain = chain-stays v v' (w .indexes) f (e .long) (e .chain) member-stays
+
+  parent : Parent v' f
+  parent = record { low = e .parent .low; high = rw (w .indexes) (e .parent .high); word = stays f (e .parent .low) (e .parent .high) .word ∙ e .parent .word }
+
+  stands : (r : R5 v) (k : ℕ) → Child v' k → parentOf (v' .table k) ≡ f → Stands v' f (e .long) k
+  stands r k h names =
+      let hi : k ≤ v .indexes = rw (w .indexes) at (h .high) in
+      let s = stays k (h .low) hi in
+      let p : parentOf (v .table k) ≡ f = sym (s .parent) ∙ names in
+      let o = rw p at (r .stands k (record { low = h .low; high = hi; word = sym (s .word) ∙ h .word })) in
+      let m = chain-one v f (r .long f) (e .long) (r .chain f (e .parent)) (e .chain) in
+      record { parent = parent; place = o .place; below = omega (arith, o .below); here = walk-here (suc (o .place)) (omega (arith, o .below)) ∙ o .here }
+
+  -- ---- the rules
+
+  shapely : Shapely v f i t → Shapely v' f i t'
+  shapely o = record {
+    first = λ l h u. elim (decLt j (suc l)) [ yes g ↦ absurd (unused-from (suc l) (rw same-slots at h) g u) | no g ↦ used-to l (omega arith) ];
+    used = λ l h u. elim (ℕ-discrete l j) [
+      | yes g ↦ rw (g, new-start, new-count) (ground-run v v' (w .ground) _ _ run)
+      | no ne ↦ rw (other-start l ne, other-count l ne) (ground-run v v' (w .ground) _ _ (o .used l (rw same-slots at h) (rw (other-start l ne, other-count l ne) at u)))
+    ];
+    one = λ g nf. used-to 0 (omega arith);
+    header = λ g k l. (let p : wordOf t ≡ i = sym (word-kept i kept behind) ∙ g in
+        kept .out (58 + k) (inl (omega (arith, base-parent i t p))) ∙ o .header p k l);
+  }
+
+  pub slot-held : (d d' : ℕ → ℕ) → ((s : ℕ) → cov a n s + d' s ≡ d s) → Held v f d → (k : ℕ) → Longer v v' f a n d' (record { tail = record { last = q; at = at; tables = k }; table = c .table })
+  slot-held d d' less h k = record {
+    held = record {
+      r2 = ground-R2 v v' (w .ground) (h .r2);
+      r3 = ground-R3 v v' (w .ground) (h .r3);
+      r4 = stay-R4 v v' f i change (w .head) (λ z. i-begins .2 (sym (i-begins .1 .word) ∙ z)) (h .r4);
+      r5 = changed-R5 v v' f i change (h .r5) (e .long) chain (stands (h .r5)) (λ b. (j, rw same-slots slot, used-to j (omega arith)));
+      r6 = changed-R6 v v' f i change (shapely (h .r6 i (omega (arith, i-high)) i-low)) (h .r6);
+      r7 = λ s l lo. (let l' : s < 1024 * (v .zones - 1) = rw (w .ground .zones) at l in
+          omega (arith, pointers-at v v' f i change s, new-over s, less s, h .r7 s l' lo, w .ground .bit s (omega arith)));
+      r8 = changed-R8 v v' f i change (h .r6) (h .r8);
+      r9 = changed-R9 v v' f i change (activeOne i t) (deletedOne i t) (freeOne i t) (systemOne i t) (directoryOne i t) (activeOne i t) (deletedOne i t) (freeOne i t) (systemOne i t) (directoryOne i t)
+          (record { active = refl; deleted = refl; free = refl; system = refl; directory = refl })
+          (ones-same i t t' (word-kept i kept behind) (λ g. u16-kept 44 kept (inl (omega (arith, base-parent i t g)))))
+          (omega (arith, w .counts .active)) (omega (arith, w .counts .deleted)) (omega (arith, w .free)) (omega (arith, w .counts .system)) (omega (arith, w .counts .directory)) (w .counts .flag) (h .r9);
+    };
+    ends = record {
+      parent = parent;
+      long = e .long;
+      chain = chain;
+      table = walk-here (e .long) (omega arith) ∙ e .table;
+      slot = suc j;
+      within = rw same-slots slot;
+      place = omega (arith, at-slot);
+      used = used-to;
+      unused = λ l h g. unused-from l (rw same-slots at h) g;
+      pointer = λ g. rw (w .here) (pointer-read t at q (sized i i-low i-high) (omega (arith, fits)));
+      none = λ g. absurd (omega arith);
+    };
+    sectors = omega (arith, sectors-at v v' f i change, only-eq (fileOf i t) f (sectorsOf i t) i-file, new-sectors);
+    front = front;
+    types = λ y all part. changed-types v v' f i change (h .r6) y all (λ l s u. type y all part l s u);
+  }
+    where
+      front : (o : ℕ) → o < 58 → getD (v' .table f) o 0 ≡ getD (v .table f) o 0
+      front o l = elim (ℕ-discrete f i) [
+        | yes g ↦ rw g (kept .out o (inl (omega (arith, base-parent i t (rw g at (e .parent .word))))))
+        | no ne ↦ ap (λ (y : List ℕ). getD y o 0) (w .there f (e .parent .low) (e .parent .high) ne)
+      ]
+
+      under : (l s : ℕ) → l < slotsOf i t → startOf i t l ≤ s → s < startOf i t l + countOf i t l → Under v i l s
+      under l s h lo hi = record { low = i-low; high = i-high; slot = h; from = lo; to = hi }
+
+      old-type : (y : ℕ) → InType v f y → (l s : ℕ) → Under v i l s → v' .zone (zoneOf s) .ztype ≡ y
+      old-type y all l s u = rw (under-zone v v' f i change (h .r6) i l s u) (all i l s i-file u)
+
+      type : (y : ℕ) → InType v f y → ((s : ℕ) → a ≤ s → s < a + n → v .zone (zoneOf s) .ztype ≡ y) → (l s : ℕ) → Under v' i l s → v' .zone (zoneOf s) .ztype ≡ y
+      type y all part l s u = elim (ℕ-discrete l j) [
+        | yes g ↦ (let lo : q .start .0 ≤ s = rw (g, new-start) at (u .from) in let hi : s < q .start .0 + q .count = rw (g, new-start, new-count) at (u .to) in
+            ⊎-elim (λ b. old-type y all j s (under j s slot (b .low) (b .high)))
+            (λ z. ⊎-elim (λ b. rw (ground-zone v v' (w .ground) s (omega (arith, run .high))) (part s (b .low) (b .high))) (λ y. absurd (omega (arith, lies s, cov-in (q .start .0) (q .count) s lo hi)))
+            (cov-cases a n s))
+            (cov-cases (startOf i t j) (countOf i t j) s))
+        | no ne ↦ old-type y all l s (under l s (rw same-slots at (u .slot)) (rw (other-start l ne) at (u .from)) (rw (other-start l ne, other-count l ne) at (u .to)))
+      ]
+
+module _ (v v' : View) (f : ℕ) (c : Cursor) (few : v .indexes ≤ 4096) (sized : (j : ℕ) → 1 ≤ j → j ≤ v .indexes → length (v .table j) ≡ 128) (e : Ends v f c)
+    (d d' : ℕ → ℕ) (h : Held v f d) (k : ℕ) where
+  -- the last pointer has n sectors more
+  pub joined-held : (n : ℕ) → 1 ≤ e .slot → Written v v' (c .table .0) (c .tail .at) (record { start = c .tail .last .start; count = c .tail .last .count + n })
+      → Run v (c .tail .last .start .0) (c .tail .last .count + n) → ((s : ℕ) → cov (c .tail .last .start .0 + c .tail .last .count) n s + d' s ≡ d s)
+      → Longer v v' f (c .tail .last .start .0 + c .tail .last .count) n d'
+      (record { tail = record { last = record { start = c .tail .last .start; count = c .tail .last .count + n }; at = c .tail .at; tables = k }; table = c .table })
+  joined-held n some w run less =
+      slot-held v v' f (c .tail .at) (record { start = c .tail .last .start; count = c .tail .last .count + n }) c w few sized e run
+      (e .slot - 1) (c .tail .last .start .0 + c .tail .last .count) n (omega (arith, e .within)) place (λ l g. e .used l (omega arith)) (λ l g o. e .unused l g (omega arith))
+      (λ s. rw (start, count) (cov-join (c .tail .last .start .0) (c .tail .last .count) n s)) (rw count refl) d d' less h k
+    where
+      place : c .tail .at ≡ baseOf (c .table .0) (v .table (c .table .0)) + 6 * (e .slot - 1)
+      place = omega (arith, e .place)
+
+      start : startOf (c .table .0) (v .table (c .table .0)) (e .slot - 1) ≡ c .tail .last .start .0
+      start = rw (sym place) (sym (ap (λ (q : Pointer). q .start .0) (e .pointer some)))
+
+      count : countOf (c .table .0) (v .table (c .table .0)) (e .slot - 1) ≡ c .tail .last .count
+      count = rw (sym place) (sym (ap (λ (q : Pointer). q .count) (e .pointer some)))
+
+  -- a pointer of its own stands behind it
+  pub beside-held : (q : Pointer) → Written v v' (c .table .0) (c .tail .at + 6) q → c .tail .at + 12 ≤ 124 → Run v (q .start .0) (q .count)
+      → ((s : ℕ) → cov (q .start .0) (q .count) s + d' s ≡ d s)
+      → Longer v v' f (q .start .0) (q .count) d' (record { tail = record { last = q; at = c .tail .at + 6; tables = k }; table = c .table })
+  beside-held q w room run less =
+      slot-held v v' f (c .tail .at + 6) q c w few sized e run (e .slot) (q .start .0) (q .count) slot (e .place) (λ l g. e .used l g) (λ l g o. e .unused l g (omega arith))
+      (λ s. rw (start, count) (omega (arith, cov-none 0 s))) (omega (arith, count)) d d' less h k
+    where
+      nz : wordOf (v .table (c .table .0)) ≢ 0
+      nz z = let b = rw (e .table) at (member-begins v few f (e .long) (e .parent) (e .chain) (e .long) (omega arith)) in b .2 (sym (b .1 .word) ∙ z)
+
+      slot : e .slot < slotsOf (c .table .0) (v .table (c .table .0))
+      slot = omega (arith, e .place, slots-end (c .table .0) (v .table (c .table .0)) nz)
+
+      none : startOf (c .table .0) (v .table (c .table .0)) (e .slot) + countOf (c .table .0) (v .table (c .table .0)) (e .slot) ≡ 0
+      none = elim (ℕ-discrete (startOf (c .table .0) (v .table (c .table .0)) (e .slot) + countOf (c .table .0) (v .table (c .table .0)) (e .slot)) 0) [
+        | yes z ↦ z
+        | no ne ↦ absurd (e .unused (e .slot) slot (omega arith) (omega arith))
+      ]
+
+      start : startOf (c .table .0) (v .table (c .table .0)) (e .slot) ≡ 0
+      start = omega (arith, none)
+
+      count : countOf (c .table .0) (v .table (c .table .0)) (e .slot) ≡ 0
+      count = omega (arith, none)

@@ -1,0 +1,9 @@
+use Rattle.allocation.proofs.LastLaws.{cursor-is}
+use borrow.Author.Needs.{needs}
+use Rattle.allocation.proofs.last.cursor_of.Statement.{statement}
+use Rattle.allocation.proofs.last.cursor_of.Tie as tie
+
+pub cursor-of-spec : {M : Type 1} → statement M
+cursor-of-spec =
+    tie.close
+    (tie.spec (λ c κs. search needs) (λ c κs. search needs) (λ c κs. search needs) (λ c κs. search needs) (λ c. search cursor-is))

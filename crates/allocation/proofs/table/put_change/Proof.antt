@@ -1,0 +1,21 @@
+use Rattle.allocation.specs.Files.{putLength}
+use borrow.Author.Needs.{needs}
+use Rattle.allocation.proofs.table.put_change.Statement.{statement}
+use Rattle.allocation.proofs.table.put_change.Tie as tie
+
+returns : tie.Need-returns
+unfolding putLength
+returns c = cc
+
+pub put-change-spec : {M : Type 1} → statement M
+put-change-spec =
+    tie.close
+    (tie.spec
+    (λ c κs. search needs)
+    (λ c. search needs)
+    (λ c κs. search needs)
+    (λ c. search needs)
+    (λ c κs. search needs)
+    (λ c κs. search needs)
+    (λ c. search needs)
+    returns)

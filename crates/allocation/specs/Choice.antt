@@ -1,0 +1,80 @@
+-- "Blocks are taken type H first, C last, one at a time: the lowest free block of the lowest zone of that type that isn't open; else the
+-- lowest open zone gets the type and gives block 0."
+use mathlib.Core.Bool.{Bool, cond}
+use mathlib.Core.List.{List, [], _∷_, _++_}
+use Prim.Native.Nat.{ℕ, _+_, _-_, _*_}
+use lib.Dec.{eqb, ltb}
+use lib.ListN.{length, replicate}
+use Rattle.field.specs.Runs.{setBits}
+use Rattle.tables.specs.declared.places.Places.{Places}
+use Rattle.tables.specs.Kinds.{firstOf}
+use Rattle.tables.specs.Blocks.{blockOf}
+use Rattle.tables.specs.Zones.{putZone}
+use Rattle.tables.specs.Views.{View, viewOf}
+use Rattle.tables.specs.Open.{isOpen}
+use Rattle.tables.specs.Room.{perZone, spareIn}
+use Rattle.allocation.specs.declared.choice.Found.{Found}
+use Rattle.allocation.specs.Search.{find}
+
+-- "type H first, C last": the types of the blocks that are counted H to C; the type of the first of k counts is k + 2
+unfoldable pub inOrder : List ℕ → List ℕ
+inOrder [] = []
+inOrder (n ∷ ns) = replicate n (length ns + 3) ++ inOrder ns
+
+-- "one at a time": a step for each type of the list
+unfoldable pub inTurn : {A : Type 0} → (ℕ → A → A) → List ℕ → A → A
+inTurn step [] x = x
+inTurn step (t ∷ ts) x = inTurn step ts (step t x)
+
+-- ---- the next block
+
+-- zone z is of type t, isn't open and has a free block
+unfoldable pub begun : View → ℕ → ℕ → Bool
+begun v t z = ltb 0 (spareIn t (v .zone z))
+
+-- the lowest such zone, Z where there is none
+unfoldable pub lowestBegun : View → ℕ → ℕ
+unfolding begun find
+lowestBegun v t = find (begun v t) (v .zones - 2) 2
+
+-- the lowest open zone, Z where there is none
+unfoldable pub lowestOpen : View → ℕ
+unfolding find
+lowestOpen v = find (λ z. isOpen (v .zone z)) (v .zones - 2) 2
+
+-- block k of zone z, of type t, is free: its first sector's bit is clear, and by R3 the others' too
+unfoldable pub clear : View → ℕ → ℕ → ℕ → Bool
+clear v t z k = eqb (v .bit (firstOf z + k * blockOf t)) 0
+
+-- the zone's lowest free block
+unfoldable pub lowestClear : View → ℕ → ℕ → ℕ
+unfolding clear find
+lowestClear v t z = find (clear v t z) (perZone t) 0
+
+-- a block, by its zone, its number in the zone, and the free blocks that the zone has without it
+unfoldable pub begunBlock : View → ℕ → ℕ → Found
+unfolding lowestClear
+begunBlock v t z = record { zone = record { 0 = z }; number = lowestClear v t z; free = v .zone z .free - 1 }
+
+unfoldable pub openBlock : View → ℕ → Found
+unfolding lowestOpen
+openBlock v t = record { zone = record { 0 = lowestOpen v }; number = 0; free = perZone t - 1 }
+
+unfoldable pub nextBlock : View → ℕ → Found
+unfolding lowestBegun begunBlock openBlock
+nextBlock v t =
+    let z = lowestBegun v t in
+    let here = begunBlock v t z in
+    let there = openBlock v t in
+    cond (ltb z (v .zones)) here there
+
+-- ---- taken
+
+-- the first sector of a block of type t
+unfoldable pub sectorOf : ℕ → Found → ℕ
+sectorOf t k = firstOf (k .zone .0) + k .number * blockOf t
+
+-- the books with it taken: its zone's entry, and its sectors in use
+unfoldable pub putBlock : Places → List ℕ → ℕ → Found → List ℕ
+unfolding sectorOf
+putBlock p b t k = setBits (putZone p b (k .zone .0) t (k .free) 0) (p .sectortable) (sectorOf t k) (blockOf t) 1

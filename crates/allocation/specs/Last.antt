@@ -1,0 +1,38 @@
+-- Where a file's pointers end: "Grow continues" behind the last one.
+use mathlib.Core.Bool.{cond}
+use mathlib.Core.List.{List}
+use Prim.Native.Nat.{ℕ, zero, suc, _+_, _-_, _*_}
+use lib.Dec.{eqb}
+use Rattle.tables.specs.declared.places.Places.{Places}
+use Rattle.tables.specs.Indexes.{tableAt, slotsOf, baseOf, startOf, countOf, pointerAt}
+use Rattle.tables.specs.Views.{View, viewOf, next}
+use Rattle.allocation.specs.declared.growth.Cursor.{Cursor}
+use Rattle.allocation.specs.Search.{find}
+
+-- the last that links lead to from i, after n links at most: "0 ends any chain"
+unfoldable pub chainEnd : (ℕ → ℕ) → ℕ → ℕ → ℕ
+chainEnd link zero i = i
+chainEnd link (suc n) i = let r = chainEnd link n (link i) in cond (eqb (link i) 0) i r
+
+-- the last table of file f
+unfoldable pub lastTable : View → ℕ → ℕ
+unfolding chainEnd
+lastTable v f = chainEnd (next v) (v .indexes) f
+
+-- how many pointers of table i, whose bytes are t, are used; "used pointers come first"
+unfoldable pub usedPointers : ℕ → List ℕ → ℕ
+unfolding find
+usedPointers i t = find (λ j. eqb (startOf i t j + countOf i t j) 0) (slotsOf i t) 0
+
+-- the byte at which the last of them begins
+unfoldable pub lastPlace : ℕ → List ℕ → ℕ
+unfolding usedPointers
+lastPlace i t = baseOf i t + 6 * usedPointers i t - 6
+
+-- where file f goes on; it has taken no further table yet
+unfoldable pub cursorOf : Places → List ℕ → ℕ → Cursor
+unfolding lastTable lastPlace
+cursorOf p b f =
+    let i = lastTable (viewOf p b) f in
+    let at = lastPlace i (tableAt p b i) in
+    record { tail = record { last = pointerAt (tableAt p b i) at; at = at; tables = 0 }; table = record { 0 = i } }

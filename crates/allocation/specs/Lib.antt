@@ -1,0 +1,13 @@
+pub mod Search
+pub mod Choice
+pub mod Tails
+pub mod NewTables
+pub mod Growth
+pub mod Last
+pub mod Files
+pub mod Scratch
+pub mod Stock
+pub mod Ready
+pub mod Steps
+pub mod Held
+pub mod Lengthened

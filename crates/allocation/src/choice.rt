@@ -1,0 +1,148 @@
+// The choice of blocks, one at a time, and a block taken.
+use field::runs::set_bits;
+use tables::blocks::block_sectors;
+use tables::blocks::zone_blocks;
+use tables::format::write_zone;
+use tables::kinds::Sector;
+use tables::kinds::Zone;
+use tables::kinds::first_sector;
+use tables::open::is_open;
+use tables::places::Places;
+use tables::room::spare_in;
+use tables::sector::sector_bit;
+use tables::zone::zone_entry;
+ghost use mathlib.Core.Path.{_≡_};
+ghost use Prim.Native.Nat.{_-_, _≤_, _<_};
+ghost use lib.ListN.{length};
+ghost use Rattle.tables.specs.Blocks.{Typed};
+ghost use Rattle.tables.specs.Open.{isOpen};
+ghost use Rattle.tables.specs.Places.{Layout};
+ghost use Rattle.tables.specs.Room.{perZone};
+ghost use Rattle.tables.specs.Views.{viewOf};
+ghost use Rattle.allocation.specs.Search.{find};
+ghost use Rattle.allocation.specs.Choice.{begun, lowestOpen, clear, openBlock, nextBlock, sectorOf, putBlock};
+ghost use Rattle.allocation.specs.Stock.{Proper, Behind};
+
+// A block by its zone, its number in the zone, and the free blocks that the zone has without it.
+pub struct Found {
+    pub zone: Zone,
+    pub number: u32,
+    pub free: u32,
+}
+
+// The lowest zone from `from` on that has a free block of type t and isn't open, Z where there is none.
+fn begun_from(b: &[u8], p: Places, t: u32, from: Zone) -> Zone
+    requires { ⌜ Layout p (length (now b)) ⌝ }
+    requires { ⌜ (2 ≤ from .0) × (from .0 ≤ p .zones) ⌝ }
+    ensures { λ r. ⌜ (r .0 ≡ find (begun (viewOf p (now (b .entry))) t) (p .zones - from .0) (from .0)) × (from .0 ≤ r .0) × (r .0 ≤ p .zones) ⌝ }
+{
+    let mut z = from.0;
+    while z < p.zones {
+        if spare_in(t, zone_entry(b, p, Zone(z))) > 0 {
+            return Zone(z);
+        }
+        z += 1;
+    }
+    Zone(z)
+}
+
+// The lowest open zone, Z where there is none.
+fn lowest_open(b: &[u8], p: Places) -> Zone
+    requires { ⌜ Layout p (length (now b)) ⌝ }
+    ensures { λ r. ⌜ r .0 ≡ lowestOpen (viewOf p (now (b .entry))) ⌝ }
+{
+    let mut z: u32 = 2;
+    while z < p.zones {
+        if is_open(zone_entry(b, p, Zone(z))) {
+            return Zone(z);
+        }
+        z += 1;
+    }
+    Zone(z)
+}
+
+// The lowest free block from `from` on of zone z, of type t.
+fn clear_from(b: &[u8], p: Places, t: u32, z: Zone, from: u32) -> u32
+    requires { ⌜ Layout p (length (now b)) ⌝ }
+    requires { ⌜ Typed t ⌝ }
+    requires { ⌜ (2 ≤ z .0) × (z .0 < p .zones) × (from ≤ perZone t) ⌝ }
+    ensures { λ r. ⌜ r ≡ find (clear (viewOf p (now (b .entry))) t (z .0)) (perZone t - from) from ⌝ }
+{
+    let first = first_sector(z).0;
+    let size = block_sectors(t);
+    let last = zone_blocks(t);
+    let mut k = from;
+    while k < last {
+        if sector_bit(b, p, Sector(first + k * size)) == 0 {
+            return k;
+        }
+        k += 1;
+    }
+    k
+}
+
+// Block 0 of the lowest open zone.
+fn open_block(b: &[u8], p: Places, t: u32) -> Found
+    requires { ⌜ Layout p (length (now b)) ⌝ }
+    requires { ⌜ Typed t ⌝ }
+    ensures { λ r. ⌜ r ≡ openBlock (viewOf p (now (b .entry))) t ⌝ }
+{
+    Found {
+        zone: lowest_open(b, p),
+        number: 0,
+        free: zone_blocks(t) - 1,
+    }
+}
+
+// Where the search in zone z begins: behind the last block if that was in it.
+fn resume(z: Zone, last: Found) -> u32
+    ensures { λ r. ⌜ (r ≤ last .number) × ((z .0 ≡ last .zone .0) → r ≡ last .number) × ((z .0 ≡ last .zone .0 → ⊥) → r ≡ 0) ⌝ }
+{
+    if z.0 == last.zone.0 {
+        return last.number;
+    }
+    0
+}
+
+// The next block of type t; none is looked for below the last one.
+pub fn next_block(b: &[u8], p: Places, t: u32, last: Found) -> Found
+    requires { ⌜ Layout p (length (now b)) ⌝ }
+    requires { ⌜ Typed t ⌝ }
+    requires { ⌜ Behind (viewOf p (now b)) t last ⌝ }
+    ensures { λ r. ⌜ r ≡ nextBlock (viewOf p (now (b .entry))) t ⌝ }
+{
+    let z = begun_from(b, p, t, last.zone);
+    if z.0 == p.zones {
+        return open_block(b, p, t);
+    }
+    Found {
+        zone: z,
+        number: clear_from(b, p, t, z, resume(z, last)),
+        free: zone_entry(b, p, z).free - 1,
+    }
+}
+
+// A block's first sector.
+pub fn block_start(t: u32, k: Found) -> Sector
+    requires { ⌜ Typed t ⌝ }
+    requires { ⌜ (1 ≤ k .zone .0) × (k .zone .0 ≤ 256) × (k .number < perZone t) ⌝ }
+    ensures { λ r. ⌜ r .0 ≡ sectorOf t k ⌝ }
+{
+    Sector(first_sector(k.zone).0 + k.number * block_sectors(t))
+}
+
+// Takes the block: its zone's entry, and its sectors' bits.
+pub fn put_block(b: &mut [u8], p: Places, t: u32, k: Found)
+    requires { ⌜ Layout p (length (now b)) ⌝ }
+    requires { ⌜ Proper (viewOf p (now b)) t k ⌝ }
+    ensures { λ _. ⌜ now (b .exit) ≡ putBlock p (now (b .entry)) t k ⌝ }
+{
+    write_zone(b, p, k.zone, t, k.free, 0);
+    set_bits(
+        b,
+        p.sectortable,
+        block_start(t, k).0 as usize,
+        block_sectors(t) as usize,
+        1,
+    );
+}

@@ -390,6 +390,16 @@ ready-grow p b f counts h parent =
       file = omega (arith, parent .high, h .layout .few);
     }
 
+-- its last pointer, and where that stands
+pub cursor-bounds : (p : Places) (b : List ℕ) (f : ℕ) → Layout p (length b) → Lawful p b → Parent (viewOf p b) f
+    → (cursorOf p b f .tail .last .count ≤ 32767) × (cursorOf p b f .tail .at ≤ 118) × (cursorOf p b f .tail .tables ≤ 1)
+unfolding cursorOf
+cursor-bounds p b f lay law parent =
+    let i = lastTable (viewOf p b) f in
+    let l = last-filed (viewOf p b) f (lay .few) (law .r5) (law .r6) parent in
+    let s = law .r6 i (omega (arith, l .high)) (l .low) in
+    (place-count (viewOf p b) i (tableAt p b i) s (l .some) (l .used), place-high (viewOf p b) i (tableAt p b i) s (l .some) (l .used), omega arith)
+
 -- ---- the ways out of the functions
 
 module _ (p : Places) (b counts name date : List ℕ) (long attribute : ℕ) (x : List ℕ) (f : Index) (t : Tail) (ef : f .0 ≡ firstFreeOf b)

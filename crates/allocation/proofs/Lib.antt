@@ -22,3 +22,6 @@ pub mod ReadyLaws
 pub mod SizeLaws
 pub mod FileLaws
 pub mod AddHeld
+pub mod HeldLawful
+pub mod CreatedLawful
+pub mod GrownLawful

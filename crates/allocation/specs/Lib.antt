@@ -11,3 +11,4 @@ pub mod Ready
 pub mod Steps
 pub mod Held
 pub mod Lengthened
+pub mod NewLawful

@@ -5,3 +5,6 @@ pub mod MountLaws
 pub mod AmountLaws
 pub mod FormatRequestLaws
 pub mod MountKeeps
+pub mod CreateLaws
+pub mod GrowLaws
+pub mod FixedLaws

@@ -5,3 +5,6 @@ pub mod Format
 pub mod Mount
 pub mod Space
 pub mod Report
+pub mod Create
+pub mod Named
+pub mod Grow

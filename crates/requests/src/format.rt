@@ -90,7 +90,7 @@ fn format_number(
     0
 }
 
-fn number_of(a: Amount) -> u32
+pub fn number_of(a: Amount) -> u32
     ensures { λ r. ⌜ r ≡ sizeOf a ⌝ }
 {
     match a {

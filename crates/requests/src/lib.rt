@@ -1,8 +1,13 @@
 // The upper part: one module a request, over what the crate tables promises.
 pub mod amount;
+pub mod create;
+pub mod create_fixed;
+pub mod create_variable;
 pub mod dismount;
 pub mod format;
+pub mod grow;
 pub mod mount;
+pub mod named;
 pub mod report;
 pub mod space;
 pub mod text;

@@ -1,0 +1,15 @@
+use Rattle.requests.proofs.GrowLaws.{file-unnamed, named-parent, file-kind, file-lack}
+use borrow.Author.Needs.{needs}
+use Rattle.requests.proofs.grow.file_number.Statement.{statement}
+use Rattle.requests.proofs.grow.file_number.Tie as tie
+
+pub file-number-spec : {M : Type 1} → statement M
+file-number-spec =
+    tie.close
+    (tie.spec
+    (λ c κs. search needs)
+    (λ c. search file-unnamed)
+    (λ c κs. search named-parent)
+    (λ c. search file-kind)
+    (λ c κs. search named-parent)
+    (λ c. search file-lack))

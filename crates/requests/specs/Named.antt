@@ -1,0 +1,21 @@
+-- Requests that name a file: "8 id outside 1..N, or not a parent", "9 temporarily deleted where active is needed", "10 protected".
+use mathlib.Core.Path.{_≡_}
+use mathlib.Core.List.{List, [], _∷_}
+use Prim.Native.Nat.{ℕ, _/_, _%_}
+use Rattle.tables.specs.Indexes.{tableAt, attributeOf}
+use Rattle.tables.specs.Places.{placesOf}
+use Rattle.tables.specs.Gates.{Test, asks}
+use Rattle.tables.specs.Views.{viewOf, Parent}
+use Rattle.tables.specs.Rules.R9.{deletedBit}
+
+-- the bytes of index table id
+abbrev pub fileBytes : List ℕ → ℕ → List ℕ
+fileBytes b id = tableAt (placesOf b) b id
+
+-- an active file
+unfoldable pub namedTests : List ℕ → ℕ → List Test
+namedTests b id = asks 8 (Parent (viewOf (placesOf b) b) id) ∷ asks 9 (deletedBit (attributeOf (fileBytes b id)) ≡ 0) ∷ []
+
+-- "weight 4 write-protected, 8 read-protected": the weight w is not in the file's attribute
+abbrev pub Unprotected : ℕ → List ℕ → ℕ → Type 0
+Unprotected w b id = attributeOf (fileBytes b id) / w % 2 ≡ 0

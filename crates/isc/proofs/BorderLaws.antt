@@ -7,6 +7,9 @@ use native.Mathlib.Omega.{arith}
 use lib.ListN.{length, take}
 use lib.IntN.{ℤ}
 use Rattle.field.specs.Parts.{over}
+use Rattle.tables.specs.declared.kinds.Index.{Index}
+use Rattle.requests.specs.declared.create.Created.{Created}
+use Rattle.requests.specs.declared.create.Created.the-variants.{Done, Refused as NotMade}
 use Rattle.requests.specs.declared.space.Space.{Space}
 use Rattle.requests.specs.declared.space.Space.the-variants.{Is, Refused}
 use Rattle.requests.specs.declared.report.Text.{Text}
@@ -20,7 +23,11 @@ use Rattle.requests.specs.Space.{Spaced, numberOf, sectorsValue, usedValue}
 use Rattle.requests.proofs.MountLaws.{spaced-one}
 use Rattle.requests.specs.Report.{reportOf, Reported}
 use Rattle.requests.proofs.ReportLaws.{text-length, text-part}
-use Rattle.isc.specs.Border.{SpaceOut, Lines, ReportOut}
+use Rattle.tables.specs.declared.counts.Chosen.{Chosen}
+use Rattle.tables.specs.Counts.{chosenTypes}
+use Rattle.requests.specs.Create.{numberOf as createdNumber, idValue, CreatedFixed, CreatedVariable}
+use Rattle.requests.specs.Grow.{Grew}
+use Rattle.isc.specs.Border.{CreateOut, SpaceOut, Lines, ReportOut}
 
 pub space-is : (b : List ℕ) (found : Space) (s u : ℕ) → Spaced b found → found ≡ Is s u → SpaceOut b 0 s u
 space-is b found s u h e = record { answer = Is s u; spaced = rw e at h; number = refl; all = refl; taken = refl }
@@ -50,7 +57,27 @@ report-copies b text t l h = omega (arith, ap length (text-part (reportOf (h .nu
 pub format-border : (b b' : List ℕ) (x y : ℤ) (z n : Amount) (l : Label) (r : ℕ) → z ≡ amountOf x → n ≡ amountOf y → Formatted b z n l r b' → Formatted b (amountOf x) (amountOf y) l r b'
 format-border b b' x y z n l r e f h = rw (← e, ← f) h
 
+pub create-done : (P : Created → Type 0) (made : Created) (i : Index) → P made → made ≡ Done i → CreateOut P 0 (i .0)
+create-done P made i h e = record { answer = Done i; holds = rw e at h; number = refl; value = refl }
+
+pub create-no : (P : Created → Type 0) (made : Created) (n : ℕ) → P made → made ≡ NotMade n → CreateOut P n 0
+create-no P made n h e = record { answer = NotMade n; holds = rw e at h; number = refl; value = refl }
+
+pub fixed-border : (b b' name date : List ℕ) (x flag : ℤ) (kind : ℕ) (size : Amount) (types : Chosen) (made : Created) → size ≡ amountOf x → types ≡ chosenTypes flag → CreatedFixed b name size types kind date made b' → CreatedFixed b name (amountOf x) (chosenTypes flag) kind date made b'
+fixed-border b b' name date x flag kind size types made e d h = rw (← e, ← d) h
+
+pub variable-border : (b b' name date : List ℕ) (x : ℤ) (kind : ℕ) (cell : Amount) (made : Created) → cell ≡ amountOf x → CreatedVariable b name cell kind date made b' → CreatedVariable b name (amountOf x) kind date made b'
+variable-border b b' name date x kind cell made e h = rw (← e) h
+
+pub grow-border : (b b' date : List ℕ) (id : ℕ) (x : ℤ) (long : Amount) (r : ℕ) → long ≡ amountOf x → Grew b id long date r b' → Grew b id (amountOf x) date r b'
+grow-border b b' date id x long r e h = rw (← e) h
+
 -- ---- one result
+
+pub create-one : (P Q : Created → Type 0) (r r' id id' : ℕ) → ((a c : Created) → P a → Q c → a ≡ c) → CreateOut P r id → CreateOut Q r' id' → (r ≡ r') × (id ≡ id')
+create-one P Q r r' id id' one h k =
+    let e : h .answer ≡ k .answer = one (h .answer) (k .answer) (h .holds) (k .holds) in
+    (h .number ∙ ap createdNumber e ∙ sym (k .number), h .value ∙ ap idValue e ∙ sym (k .value))
 
 pub space-one : (b : List ℕ) (r r' s s' u u' : ℕ) → SpaceOut b r s u → SpaceOut b r' s' u' → (r ≡ r') × (s ≡ s') × (u ≡ u')
 space-one b r r' s s' u u' h k =

@@ -6,9 +6,18 @@ use lib.ListN.{length}
 use Rattle.field.specs.Parts.{over}
 use Rattle.tables.specs.Gates.{Gate}
 use Rattle.tables.specs.Books.{bookTests}
+use Rattle.requests.specs.declared.create.Created.{Created}
 use Rattle.requests.specs.declared.space.Space.{Space}
+use Rattle.requests.specs.Create.{numberOf as createdNumber, idValue}
 use Rattle.requests.specs.Space.{numberOf, sectorsValue, usedValue, Spaced}
 use Rattle.requests.specs.Report.{reportOf}
+
+-- a create, with its promise: the number and the new file's id, 0 on a refusal
+pub record CreateOut (promise : Created → Type 0) (r id : ℕ) : Type 0 where
+  pub answer : Created
+  pub holds : promise answer
+  pub number : r ≡ createdNumber answer
+  pub value : id ≡ idValue answer
 
 -- space: the number and the values of the answer, zeros on a refusal
 pub record SpaceOut (b : List ℕ) (r sectors used : ℕ) : Type 0 where

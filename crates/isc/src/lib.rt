@@ -1,17 +1,25 @@
 // The C interface: each function takes its numbers and slices, calls one request, and hands back the number and the values.
 use field::parts::copy;
 use requests::amount::amount_of;
+use requests::create::Created;
+use requests::create_fixed::create_fixed;
+use requests::create_variable::create_variable;
 use requests::dismount::dismount;
 use requests::format::format;
+use requests::grow::grow;
 use requests::mount::mount;
 use requests::report::report;
 use requests::space::Space;
 use requests::space::space_of;
+use tables::counts::chosen_types;
 ghost use mathlib.Core.Path.{_≡_};
+ghost use Rattle.tables.specs.Counts.{chosenTypes};
 ghost use Rattle.requests.specs.Amounts.{amountOf};
+ghost use Rattle.requests.specs.Create.{CreatedFixed, CreatedVariable};
 ghost use Rattle.requests.specs.Format.{Formatted};
+ghost use Rattle.requests.specs.Grow.{Grew};
 ghost use Rattle.requests.specs.Mount.{Mounted, Dismounted};
-ghost use Rattle.isc.specs.Border.{SpaceOut, ReportOut};
+ghost use Rattle.isc.specs.Border.{CreateOut, SpaceOut, ReportOut};
 
 #[no_mangle]
 pub extern "C" fn isc_format(
@@ -44,6 +52,62 @@ pub extern "C" fn isc_dismount(books: &mut [u8]) -> u32
     ensures { λ r. ⌜ Dismounted (now (books .entry)) r (now (books .exit)) ⌝ }
 {
     dismount(books)
+}
+
+#[no_mangle]
+pub extern "C" fn isc_create_fixed(
+    books: &mut [u8],
+    name: &[u8],
+    size: i32,
+    flag: i32,
+    kind: u32,
+    date: &[u8],
+    id: &mut u32,
+) -> u32
+    ensures { λ r. ⌜ CreateOut (λ answer. CreatedFixed (now (books .entry)) (now (name .entry)) (amountOf size) (chosenTypes flag) kind (now (date .entry)) answer (now (books .exit))) r (now (id .exit)) ⌝ }
+{
+    let made = create_fixed(books, name, amount_of(size), chosen_types(flag), kind, date);
+    match made {
+        Created::Done(i) => {
+            *id = i.0;
+            0
+        }
+        Created::Refused(n) => {
+            *id = 0;
+            n
+        }
+    }
+}
+
+#[no_mangle]
+pub extern "C" fn isc_create_variable(
+    books: &mut [u8],
+    name: &[u8],
+    cell: i32,
+    kind: u32,
+    date: &[u8],
+    id: &mut u32,
+) -> u32
+    ensures { λ r. ⌜ CreateOut (λ answer. CreatedVariable (now (books .entry)) (now (name .entry)) (amountOf cell) kind (now (date .entry)) answer (now (books .exit))) r (now (id .exit)) ⌝ }
+{
+    let made = create_variable(books, name, amount_of(cell), kind, date);
+    match made {
+        Created::Done(i) => {
+            *id = i.0;
+            0
+        }
+        Created::Refused(n) => {
+            *id = 0;
+            n
+        }
+    }
+}
+
+#[no_mangle]
+pub extern "C" fn isc_grow(books: &mut [u8], id: u32, length: i32, date: &[u8]) -> u32
+    ensures { λ r. ⌜ Grew (now (books .entry)) id (amountOf length) (now (date .entry)) r (now (books .exit)) ⌝ }
+{
+    grow(books, id, amount_of(length), date)
 }
 
 #[no_mangle]

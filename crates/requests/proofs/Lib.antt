@@ -8,3 +8,4 @@ pub mod MountKeeps
 pub mod CreateLaws
 pub mod GrowLaws
 pub mod FixedLaws
+pub mod CreateKeeps

@@ -1,5 +1,5 @@
 -- Mount and dismount keep the books good: the rules hold of the books afterwards, at the same places. Assumes nothing.
-use mathlib.Core.Path.{_≡_}
+use mathlib.Core.Path.{_≡_, refl}
 use mathlib.Core.Logic.{inl}
 use mathlib.Core.List.{List}
 use Prim.Native.Nat.{ℕ, zero, suc, _≤_}
@@ -42,13 +42,13 @@ flag-keeps b p f few g =
     (omega (arith, flag-put b f (good-room b p g)))
     (g .lawful .r9)) g
 
--- a request that keeps the books good where it is done keeps them, for a refusal leaves them as they were
-pub after-keeps : (r : ℕ) (new old b' : List ℕ) (p : Places) → b' ≡ after r new old → Good new p → Good old p → Good b' p
-after-keeps zero new old b' p e h g = rw e h
-after-keeps (suc k) new old b' p e h g = rw e g
+-- a request keeps the books good if it does where it is done, for a refusal leaves them as they were
+pub done-keeps : (r : ℕ) (new old b' : List ℕ) (p : Places) → b' ≡ after r new old → (r ≡ 0 → Good new p) → Good old p → Good b' p
+done-keeps zero new old b' p e h g = rw e (h refl)
+done-keeps (suc k) new old b' p e h g = rw e g
 
 pub mounted-keeps : (b : List ℕ) (r : ℕ) (b' : List ℕ) (p : Places) → Mounted b r b' → Good b p → Good b' p
-mounted-keeps b r b' p h g = after-keeps r (putFlag b 1) b b' p (h .books) (flag-keeps b p 1 (omega arith) g) g
+mounted-keeps b r b' p h g = done-keeps r (putFlag b 1) b b' p (h .books) (λ e. flag-keeps b p 1 (omega arith) g) g
 
 pub dismounted-keeps : (b : List ℕ) (r : ℕ) (b' : List ℕ) (p : Places) → Dismounted b r b' → Good b p → Good b' p
-dismounted-keeps b r b' p h g = after-keeps r (putFlag b 0) b b' p (h .books) (flag-keeps b p 0 (omega arith) g) g
+dismounted-keeps b r b' p h g = done-keeps r (putFlag b 0) b b' p (h .books) (λ e. flag-keeps b p 0 (omega arith) g) g

@@ -4,7 +4,10 @@
      1 books not S x 1,024 bytes, S from 5 to 1,024     2 wrong mark or version
      3 sizes not allowed, or tables out of place        4 another book rule broken
      5 not mounted                                      6 mounted already
-     7 an argument not allowed here
+     7 an argument not allowed here                     8 no file of this id
+     9 temporarily deleted                             10 protected
+    11 grow of a fixed file                            12 no room
+    13 too few free index tables
    A refusal alters no lent byte, and a value beside it is 0. A slice is a pointer and a length in
    elements; an empty slice has a pointer that isn't null. Slices that are lent at the same time must
    not overlap. A date is the six bytes as they stand on the volume. */
@@ -31,6 +34,26 @@ uint32_t isc_format(uint8_t *books, size_t books_len,
 /* Change the volume flag only: 1 to 4, then 6; 1 to 5. */
 uint32_t isc_mount(uint8_t *books, size_t books_len);
 uint32_t isc_dismount(uint8_t *books, size_t books_len);
+
+/* Make a file of a kind, 0 plain, 1 directory, 2 system, and answer its id: 1 to 5, 7, 12, 13.
+   Fixed: of a size in bytes, in blocks of the types that the flag chooses, any sum of 4 (C), 8 (D),
+   16 (E), 32 (F), 64 (G) and 128 (H), or -1 or 0 for all six. Variable: empty, with one block of `cell`
+   bytes. The name has 1 to 24 bytes, none of them null, '*' or '?'. */
+uint32_t isc_create_fixed(uint8_t *books, size_t books_len,
+                          const uint8_t *name, size_t name_len,
+                          int32_t size, int32_t flag, uint32_t kind,
+                          const uint8_t *date, size_t date_len,
+                          uint32_t *id);
+uint32_t isc_create_variable(uint8_t *books, size_t books_len,
+                             const uint8_t *name, size_t name_len,
+                             int32_t cell, uint32_t kind,
+                             const uint8_t *date, size_t date_len,
+                             uint32_t *id);
+
+/* Makes a variable file longer, with the fewest blocks, or changes nothing if it is as long already:
+   1 to 5, 7 to 13. */
+uint32_t isc_grow(uint8_t *books, size_t books_len, uint32_t id, int32_t length,
+                  const uint8_t *date, size_t date_len);
 
 /* The volume's sectors, and how many of them are in use: 1 to 5. */
 uint32_t isc_space(const uint8_t *books, size_t books_len, uint32_t *sectors, uint32_t *used);

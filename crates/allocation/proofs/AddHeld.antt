@@ -1,13 +1,10 @@
 -- Blocks added to a file, each taken and pointed at, keep the rules: the single steps put together. Assumes nothing.
 use mathlib.Core.Path.{_≡_, refl, sym, ap, ap₂, _∙_}
-use mathlib.Core.Bool.{cond}
 use mathlib.Core.Logic.{_≢_}
 use mathlib.Core.List.{List, [], _∷_}
 use Prim.Native.Nat.{ℕ, _+_, _-_, _*_, _≤_, _<_}
 use native.Mathlib.Decide.{ℕ-discrete, decLt}
 use native.Mathlib.Omega.{arith}
-use borrow.Author.Tests.{ne-eqb, le-leb, lt-leb}
-use lib.Dec.{leb}
 use lib.ListN.{length, getD}
 use Rattle.field.proofs.BitLaws.{bitAt-lt}
 use Rattle.tables.specs.declared.index.Pointer.{Pointer}
@@ -26,7 +23,7 @@ use Rattle.allocation.specs.declared.choice.Found.{Found}
 use Rattle.allocation.specs.declared.tail.Tail.{Tail}
 use Rattle.allocation.specs.declared.growth.Cursor.{Cursor}
 use Rattle.allocation.specs.Choice.{nextBlock, sectorOf, putBlock, inTurn}
-use Rattle.allocation.specs.Tails.{joins, longer, beside, further, push}
+use Rattle.allocation.specs.Tails.{longer, beside, further}
 use Rattle.allocation.specs.NewTables.{putChild}
 use Rattle.allocation.specs.Growth.{Growth, pointed, addBlock}
 use Rattle.allocation.specs.Ready.{Head, Ready}
@@ -42,6 +39,7 @@ use Rattle.allocation.proofs.StepLaws.{Calm, pointer-still, child-poppe
 use Rattle.allocation.proofs.ChangeLaws.{Longer}
 use Rattle.allocation.proofs.WrittenHeld.{joined-held, beside-held}
 use Rattle.allocation.proofs.ExtendedHeld.{extended-held}
+use Rattle.allocation.proofs.HeldLawful.{quiet-trans, calm-quiet}
 use Rattle.allocation.proofs.ReadyLaws.{Taking, add-is, laid-is, here-is, further-is, pointed-here, pointed-further, here-written, taking-head, further-extended, step-taking, ready-step}
 
 -- two runs that meet
@@ -54,27 +52,6 @@ run-join v a c d r q few = record {
   typed = λ s h l. elim (decLt s (a + c)) [ yes x ↦ r .typed s x l | no x ↦ q .typed s (omega arith) (omega arith) ];
   whole = λ z l lo ty k lk j lj. cov-join a c d _ ∙ ap₂ (λ (x y : ℕ). x + y) (r .whole z l lo ty k lk j lj) (q .whole z l lo ty k lk j lj) ∙ sym (cov-join a c d _);
 }
-
--- a block that does not begin at the last pointer's end has a pointer of its own
-push-apart : (l : Tail) (s n : ℕ) → l .last .start .0 + l .last .count ≢ s → push l s n ≡ cond (leb (l .at + 12) 124) (beside l s n) (further l s n)
-unfolding push joins
-push-apart l s n ne = rw (ne-eqb (l .last .start .0 + l .last .count) s ne)
-
--- where it joins the last pointer, it begins at its end
-push-ways : (P : Tail → Type 0) (l : Tail) (s n : ℕ) → (l .last .start .0 + l .last .count ≡ s → l .last .count + n ≤ 32767 → P (longer l n))
-    → (l .at + 12 ≤ 124 → P (beside l s n)) → (124 < l .at + 12 → P (further l s n)) → P (push l s n)
-push-ways P l s n a b c = elim (ℕ-discrete (l .last .start .0 + l .last .count) s) [
-  | yes e ↦ push-cases P l s n (a e) b c
-  | no ne ↦ rw (push-apart l s n ne) (elim (decLt 124 (l .at + 12)) [ yes h ↦ rw (lt-leb (l .at + 12) 124 h) (c h) | no h ↦ rw (le-leb (l .at + 12) 124 (omega arith)) (b (omega arith)) ])
-]
-
--- ---- frames
-
-quiet-trans : {p : Places} {a b c : List ℕ} → Quiet p a b → Quiet p b c → Quiet p a c
-quiet-trans f g = record { len = g .len ∙ f .len; low = λ j l. g .low j l ∙ f .low j l; tails = λ s t. g .tails (rw (f .len) s) (f .tails s t) }
-
-calm-quiet : {p : Places} {a b : List ℕ} → Calm p a b → Quiet p a b
-calm-quiet c = record { len = c .len; low = c .low; tails = c .tails }
 
 -- ---- a block
 
@@ -197,7 +174,8 @@ module _ (p : Places) (f t : ℕ) (ts : List ℕ) (g : Growth) (ready : Ready p 
       (block-longer _ _ _ refl
       (extended-held v _ f c (ready .layout .few) sized block-ends _ nothing block-held (l .tables + 1) (further l s n .last)
       (further-extended p f b c (further l s n) ts h more) room (λ z. omega (arith, head .low)) block-run (λ x. omega arith))
-      (quiet-trans (calm-quiet new) (calm-quiet (pointer-still p (putChild p b f (c .table .0)) (firstFreeOf b) 22 (further l s n .last) (rw (new .len) block-layout) (head .low) (head .high) (omega arith) .calm))))
+      (quiet-trans (calm-quiet new)
+      (calm-quiet (pointer-still p (putChild p b f (c .table .0)) (firstFreeOf b) 22 (further l s n .last) (rw (new .len) block-layout) (head .low) (head .high) (omega arith) .calm))))
     where
       more : further l s n .tables ≢ l .tables
       more e = omega arith
@@ -214,7 +192,7 @@ add-held p f t ts g ready held ends =
     let k = nextBlock (viewOf p (g .books)) t in
     let b = putBlock p (g .books) t k in
     rw (add-is p f t g, laid-is p f t k g)
-    (push-ways (λ r. Taking p f b (g .cursor) r ts → Lengthened p f g (pointed p f b (g .cursor) r) (t ∷ [])) (g .cursor .tail) (sectorOf t k) (blockOf t)
+    (push-cases (λ r. Taking p f b (g .cursor) r ts → Lengthened p f g (pointed p f b (g .cursor) r) (t ∷ [])) (g .cursor .tail) (sectorOf t k) (blockOf t)
     (joined p f t ts g ready held ends) (stood p f t ts g ready held ends) (chained p f t ts g ready held ends) (step-taking p f g t ts ready))
 
 -- ---- blocks in turn

@@ -20,16 +20,18 @@ use Rattle.tables.specs.Findings.{Each}
 use Rattle.tables.specs.Indexes.{wordOf, parentOf, attributeOf, linkOf, minus, slotsOf, startOf, countOf, Used, sectorsOf, fileOf}
 use Rattle.tables.specs.Same.{Ground}
 use Rattle.tables.specs.Views.{View, Begins, Free, Parent, Child, walk, next, onlyIf, tally, cov, overOf, pointersOver, Under}
-use Rattle.tables.specs.Rules.R4.{FreeChain, Own, R4}
+use Rattle.tables.specs.Rules.R4.{R4}
 use Rattle.tables.specs.Rules.R5.{Full, FileChain, Stands, R5}
 use Rattle.tables.specs.Rules.R6.{Run}
 use Rattle.tables.specs.Rules.R8.{fileSectors, fileType, OneType, File, FileLaw}
 use Rattle.tables.specs.Rules.R9.{freeOne, activeOne, deletedOne, systemOne, directoryOne, R9}
-use Rattle.tables.proofs.ChainLaws.{walk-same, walk-once, walk-tail, walk-none}
+use Rattle.tables.proofs.ChainLaws.{walk-same, walk-none}
 use Rattle.tables.proofs.IndexLaws.{slots-free, slots-parent, slots-in, file-free, file-parent, file-child}
 use Rattle.tables.proofs.CountLaws.{Ones, only-eq, only-ne, ones-other, free-yes, free-no}
 use Rattle.allocation.specs.declared.growth.Cursor.{Cursor}
+use Rattle.allocation.specs.Steps.{SameCounts}
 use Rattle.allocation.specs.Held.{Shapely, Held, Ends, InType}
+use Rattle.allocation.proofs.ChainedLaws.{FreeBut, tally-part, free-but, kept-R4, popped-R4}
 use Rattle.allocation.proofs.PointerBytes.{word-kept, parent-kept, slots-kept, file-kept, start-kept, count-kept}
 
 -- table x was of file f or free, and is of file f; the file's other tables keep all but their links, and all others all
@@ -54,7 +56,7 @@ pub record Longer (v v' : View) (f a n : ℕ) (d : ℕ → ℕ) (c : Cursor) : T
   pub front : (o : ℕ) → o < 58 → getD (v' .table f) o 0 ≡ getD (v .table f) o 0
   pub types : (t : ℕ) → InType v f t → ((s : ℕ) → a ≤ s → s < a + n → v .zone (zoneOf s) .ztype ≡ t) → InType v' f t
 
--- ---- the file that a table is of
+-- ---- the file that a table is of, and the pointers of a parent
 
 pub free-file : (v : View) (i : ℕ) → Free v i → fileOf i (v .table i) ≡ 0
 free-file v i h = file-free i (v .table i) (h .word)
@@ -64,6 +66,22 @@ parent-file v i h = file-parent i (v .table i) (λ z. omega (arith, h .low, h .w
 
 pub child-file : (v : View) (i : ℕ) → v .indexes ≤ 4096 → Child v i → fileOf i (v .table i) ≡ parentOf (v .table i)
 child-file v i few h = file-child i (v .table i) (λ z. omega (arith, h .high, h .word)) (λ z. omega (arith, h .high, h .word))
+
+pub parent-slots : (v : View) (i : ℕ) → Parent v i → slotsOf i (v .table i) ≡ 10
+parent-slots v i h = slots-parent i (v .table i) (λ z. omega (arith, h .low, h .word)) (h .word)
+
+pub first-under : (v : View) (i : ℕ) → Parent v i → Run v (startOf i (v .table i) 0) (countOf i (v .table i) 0) → Under v i 0 (startOf i (v .table i) 0)
+first-under v i h run = record { low = h .low; high = h .high; slot = omega (arith, parent-slots v i h); from = omega arith; to = omega (arith, run .some) }
+
+-- R6 as a growing file f keeps it: what lies under a pointer is a run, and another file's parent has a first one
+module _ (v : View) (f : ℕ) (r6 : Each (λ i. Shapely v f i (v .table i)) 1 (v .indexes + 1)) where
+  pub under-run : (i j s : ℕ) → Under v i j s → Run v (startOf i (v .table i) j) (countOf i (v .table i) j)
+  under-run i j s u = r6 i (omega (arith, u .high)) (u .low) .used j (u .slot) (omega (arith, u .from, u .to))
+
+  pub other-under : (p : ℕ) → Parent v p → p ≢ f → Under v p 0 (startOf p (v .table p) 0)
+  other-under p par ne =
+      let shape = r6 p (omega (arith, par .high)) (par .low) in
+      first-under v p par (shape .used 0 (omega (arith, parent-slots v p par)) (shape .one (par .word) ne))
 
 module _ (v : View) (few : v .indexes ≤ 4096) (p n : ℕ) (par : Parent v p) (ch : FileChain v p n) where
   pub member-begins : (k : ℕ) → k < suc n → (w : ℕ) × Begins v (walk (next v) p k) w × (w ≢ 0)
@@ -77,14 +95,6 @@ module _ (v : View) (few : v .indexes ≤ 4096) (p n : ℕ) (par : Parent v p) (
   pub member-word : (k : ℕ) → k < suc n → (wordOf (v .table (walk (next v) p k)) ≡ walk (next v) p k) ⊎ (wordOf (v .table (walk (next v) p k)) ≡ minus (walk (next v) p k))
   member-word zero l = inl (rw (walk-none (next v) p) (par .word))
   member-word (suc k) l = inr (ch .each k (omega arith) .word)
-
--- the free chain's head is free, if there is one
-pub head-free : (v : View) → R4 v → v .head ≢ 0 → Free v (v .head)
-head-free v r ne = go (r .long) (r .chain)
-  where
-    go : (m : ℕ) → FreeChain v m → Free v (v .head)
-    go zero ch = absurd (ne (sym (walk-none (next v) (v .head)) ∙ ch .ends))
-    go (suc m) ch = rw (walk-none (next v) (v .head)) at (ch .each 0 (omega arith))
 
 -- what is used is not free
 pub used-not : (v : View) (i j w : ℕ) → Free v j → Begins v i w → w ≢ 0 → i ≢ j
@@ -137,7 +147,8 @@ module _ (v v' : View) (same : v' .indexes ≡ v .indexes) (p n : ℕ) (ch : Fil
   }
 
 -- a table adds the same to the counts if it begins with the same and, where it is a parent, has the same attribute
-pub ones-same : (j : ℕ) (t t' : List ℕ) → wordOf t' ≡ wordOf t → (wordOf t ≡ j → attributeOf t' ≡ attributeOf t) → Ones j t' (activeOne j t) (deletedOne j t) (freeOne j t) (systemOne j t) (directoryOne j t)
+ones-same : (j : ℕ) (t t' : List ℕ) → wordOf t' ≡ wordOf t → (wordOf t ≡ j → attributeOf t' ≡ attributeOf t)
+    → Ones j t' (activeOne j t) (deletedOne j t) (freeOne j t) (systemOne j t) (directoryOne j t)
 unfolding activeOne deletedOne freeOne systemOne directoryOne
 ones-same j t t' word attribute =
     elim (ℕ-discrete (wordOf t) j) [
@@ -202,7 +213,7 @@ module _ (v v' : View) (f x : ℕ) (h : Changed v v' f x) where
       where
         one : wordOf (v .table j) ≡ j → Used j (v .table j) 0 → Used j (v' .table j) 0
         one e u =
-            let l : 0 < slotsOf j (v .table j) = omega (arith, slots-parent j (v .table j) (λ z. omega arith) e) in
+            let l : 0 < slotsOf j (v .table j) = omega (arith, parent-slots v j (record { low = lo; high = hi; word = e })) in
             rw (start-there 0 l, count-there 0 l) u
 
   -- ---- other files
@@ -225,75 +236,16 @@ module _ (v v' : View) (f x : ℕ) (h : Changed v v' f x) where
 
   -- ---- R4
 
-  pub free-was : (j : ℕ) → Free v' j → (j ≢ x) × Free v j
-  free-was j b =
-      let ne : j ≢ x = λ q. (let a : 0 ≡ f = sym (free-file v' j b) ∙ ap (λ (i : ℕ). fileOf i (v' .table i)) q ∙ h .now in omega (arith, h .file)) in
-      (ne, begins-was j (b .low) (rw (h .indexes) at (b .high)) ne 0 b)
-
-  free-table : (j : ℕ) → j ≢ x → Free v j → v' .table j ≡ v .table j
-  free-table j ne b = h .there j (b .low) (b .high) ne (λ e. omega (arith, free-file v j b, h .file))
-
-  own-all : Each (Own v) 1 (v .indexes + 1) → Each (Own v') 1 (v' .indexes + 1)
-  own-all own j l lo =
-      let hi : j ≤ v .indexes = omega (arith, h .indexes) in
-      elim (ℕ-discrete j x) [
-        | yes e ↦ rw e (record { word = inr (h .word); blank = λ z. absurd (⊎-elim (λ w. omega (arith, h .low)) (λ w. omega (arith, h .few, h .high)) (h .word)) })
-        | no ne ↦ record {
-          word = rw (word-there j lo hi ne) (own j (omega arith) lo .word);
-          blank = λ z. (let b : Free v j = record { low = lo; high = hi; word = sym (word-there j lo hi ne) ∙ z } in
-              rw (free-table j ne b) (own j (omega arith) lo .blank (b .word)));
-        }
-      ]
+  free-but-x : R4 v → FreeBut v v' x
+  free-but-x =
+      free-but v v' x (h .indexes) (λ z. ⊎-elim (λ w. omega (arith, h .low)) (λ w. omega (arith, h .few, h .high)) (h .word)) (inr (h .word)) word-there
+      (λ j ne b. h .there j (b .low) (b .high) ne (λ e. omega (arith, free-file v j b, h .file)))
 
   pub stay-R4 : v' .head ≡ v .head → wordOf (v .table x) ≢ 0 → R4 v → R4 v'
-  stay-R4 head nz r = record {
-    own = own-all (r .own);
-    long = r .long;
-    chain = record {
-      ends = go (r .long) (omega arith) ∙ r .chain .ends;
-      each = λ k l. rw (go k (omega arith)) (let b = r .chain .each k l in begins-there _ (b .low) (b .high) (not-x _ b) 0 b);
-      every = λ i b. (let e = r .chain .every i (free-was i b .1) in (e .0, e .1, go (e .0) (omega (arith, e .1)) ∙ e .2));
-    };
-  }
-    where
-      not-x : (j : ℕ) → Free v j → j ≢ x
-      not-x j b q = nz (ap (λ (i : ℕ). wordOf (v .table i)) (sym q) ∙ b .word)
+  stay-R4 head nz r = kept-R4 v v' x (free-but-x r) (λ b. nz (b .word)) head r
 
-      go : (k : ℕ) → k ≤ r .long → walk (next v') (v' .head) k ≡ walk (next v) (v .head) k
-      go k l =
-          ap (λ (i : ℕ). walk (next v') i k) head
-          ∙ walk-same (next v) (next v') (v .head) (r .long) (λ k l. (let b = r .chain .each k l in ap linkOf (free-table _ (not-x _ b) b))) k l
-
-  module _ (head : v .head ≡ x) (moved : v' .head ≡ linkOf (v .table x)) where
-    module _ (long : ℕ) (ch : FreeChain v (suc long)) where
-      not-head : (j : ℕ) → j < long → walk (next v) (v .head) (suc j) ≢ x
-      not-head j lj q =
-          walk-once (next v) (v .head) (suc long) (ch .ends) (λ k l. ch .each k l .low) (suc j) (omega arith) 0 (omega arith) (walk-none (next v) (v .head) ∙ head ∙ sym q)
-
-      behind-head : (k : ℕ) → k ≤ long → walk (next v') (v' .head) k ≡ walk (next v) (v .head) (suc k)
-      behind-head k l =
-          ap (λ (i : ℕ). walk (next v') i k) (moved ∙ ap (next v) (sym head))
-          ∙ walk-same (next v) (next v') (next v (v .head)) long
-          (λ j lj. ap linkOf (rw (walk-tail (next v) (v .head) j) (free-table _ (not-head j lj) (ch .each (suc j) (omega arith))))) k l
-          ∙ walk-tail (next v) (v .head) k
-
-      pop-chain : FreeChain v' long
-      pop-chain = record {
-        ends = behind-head long (omega arith) ∙ ch .ends;
-        each = λ k l. rw (behind-head k (omega arith)) (let b = ch .each (suc k) (omega arith) in begins-there _ (b .low) (b .high) (not-head k l) 0 b);
-        every = λ j b. (let o = free-was j b in let e = ch .every j (o .1) in go j (o .0) (e .0) (e .1) (e .2));
-      }
-        where
-          go : (j : ℕ) → j ≢ x → (k : ℕ) → k < suc long → walk (next v) (v .head) k ≡ j → (k : ℕ) × (k < long) × (walk (next v') (v' .head) k ≡ j)
-          go j ne zero l e = absurd (ne (sym e ∙ walk-none (next v) (v .head) ∙ head))
-          go j ne (suc k) l e = (k, omega arith, behind-head k (omega arith) ∙ e)
-
-    pub pop-R4 : R4 v → R4 v'
-    pop-R4 r = record { own = own-all (r .own); long = r .long - 1; chain = at (r .long) (r .chain) }
-      where
-        at : (n : ℕ) → FreeChain v n → FreeChain v' (n - 1)
-        at zero ch = absurd (let z : x ≡ 0 = sym head ∙ sym (walk-none (next v) (v .head)) ∙ ch .ends in omega (arith, h .low))
-        at (suc n) ch = let e : suc n - 1 ≡ n = omega arith in rw e (pop-chain n ch)
+  pub pop-R4 : v .head ≡ x → v' .head ≡ linkOf (v .table x) → R4 v → R4 v'
+  pop-R4 head moved r = popped-R4 v v' x (free-but-x r) (h .low) head moved r
 
   -- ---- R5: f's own chain is given
 
@@ -360,14 +312,9 @@ module _ (v v' : View) (f x : ℕ) (h : Changed v v' f x) where
       elim (ℕ-discrete j x) [ yes e ↦ rw e new | no ne ↦ shapely-there j lo hi ne (r j (omega arith) lo) ]
 
   -- sums over the tables change by x's part
-  pub tally-at : (g : ℕ → List ℕ → ℕ) → ((j : ℕ) → 1 ≤ j → j ≤ v .indexes → j ≢ x → g j (v' .table j) ≡ g j (v .table j))
+  tally-at : (g : ℕ → List ℕ → ℕ) → ((j : ℕ) → 1 ≤ j → j ≤ v .indexes → j ≢ x → g j (v' .table j) ≡ g j (v .table j))
       → tally v' g + g x (v .table x) ≡ tally v g + g x (v' .table x)
-  unfolding tally
-  tally-at g same =
-      let q : x - 1 + 1 ≡ x = omega (arith, h .low) in
-      let e = sum-at (v .indexes) (x - 1) (λ k. g (k + 1) (v' .table (k + 1))) (λ k. g (k + 1) (v .table (k + 1))) (omega (arith, h .low, h .high))
-      (λ k l ne. same (k + 1) (omega arith) (omega arith) (omega arith)) in
-      rw (h .indexes) (rw q at e)
+  tally-at = tally-part v v' x (h .indexes) (h .low) (h .high)
 
   pub pointers-at : (s : ℕ) → pointersOver v' s + overOf x (v .table x) s ≡ pointersOver v s + overOf x (v' .table x) s
   unfolding pointersOver
@@ -381,11 +328,8 @@ module _ (v v' : View) (f x : ℕ) (h : Changed v v' f x) where
       ∙ ap (λ (n : ℕ). tally v (λ i t. onlyIf (eqb (fileOf i t) f) (sectorsOf i t)) + n) (only-eq (fileOf x (v' .table x)) f (sectorsOf x (v' .table x)) (h .now))
 
   module _ (r6 : Each (λ i. Shapely v f i (v .table i)) 1 (v .indexes + 1)) where
-    under-run : (i j s : ℕ) → Under v i j s → Run v (startOf i (v .table i) j) (countOf i (v .table i) j)
-    under-run i j s u = r6 i (omega (arith, u .high)) (u .low) .used j (u .slot) (omega (arith, u .from, u .to))
-
     pub under-zone : (i j s : ℕ) → Under v i j s → v' .zone (zoneOf s) ≡ v .zone (zoneOf s)
-    under-zone i j s u = ground-zone v v' (h .ground) s (omega (arith, under-run i j s u .high, u .to))
+    under-zone i j s u = ground-zone v v' (h .ground) s (omega (arith, under-run v f r6 i j s u .high, u .to))
 
     pub under-was : (i j s : ℕ) → i ≢ x → Under v' i j s → Under v i j s
     under-was i j s ne u =
@@ -415,17 +359,10 @@ module _ (v v' : View) (f x : ℕ) (h : Changed v v' f x) where
         same : v' .table p ≡ v .table p
         same = other-table p p (par .low) (par .high) lp ne (parent-file v p par)
 
-        first-under : Under v p 0 (startOf p (v .table p) 0)
-        first-under =
-            let shape = r6 p (omega (arith, par .high)) (par .low) in
-            let l : 0 < slotsOf p (v .table p) = omega (arith, slots-parent p (v .table p) (λ z. omega (arith, par .word)) (par .word)) in
-            let run = shape .used 0 l (shape .one (par .word) ne) in
-            record { low = par .low; high = par .high; slot = l; from = omega arith; to = omega (arith, run .some) }
-
         file-type : fileType v' p ≡ fileType v p
         unfolding fileType
         file-type =
-            ap (λ (t : List ℕ). v' .zone (zoneOf (startOf p t 0)) .ztype) same ∙ ap (λ (e : ZoneEntry). e .ztype) (under-zone p 0 _ first-under)
+            ap (λ (t : List ℕ). v' .zone (zoneOf (startOf p t 0)) .ztype) same ∙ ap (λ (e : ZoneEntry). e .ztype) (under-zone p 0 _ (other-under v f r6 p par ne))
 
         file-one : OneType v p → OneType v' p
         file-one o i j s e u =
@@ -479,3 +416,12 @@ module _ (v v' : View) (f x : ℕ) (h : Changed v v' f x) where
     directory = omega (arith, r .directory, tally-at directoryOne (λ j lo hi ne. counts-there j lo hi ne .directory));
     flag = rw flag (r .flag);
   }
+
+  -- x is counted as before
+  pub stay-R9 : wordOf (v' .table x) ≡ wordOf (v .table x) → (wordOf (v .table x) ≡ x → attributeOf (v' .table x) ≡ attributeOf (v .table x)) → SameCounts v v' → v' .free ≡ v .free
+      → R9 v → R9 v'
+  stay-R9 word attribute counts free =
+      let t = v .table x in
+      changed-R9 (activeOne x t) (deletedOne x t) (freeOne x t) (systemOne x t) (directoryOne x t) (activeOne x t) (deletedOne x t) (freeOne x t) (systemOne x t) (directoryOne x t)
+      (record { active = refl; deleted = refl; free = refl; system = refl; directory = refl }) (ones-same x t (v' .table x) word attribute)
+      (omega (arith, counts .active)) (omega (arith, counts .deleted)) (omega arith) (omega (arith, counts .system)) (omega (arith, counts .directory)) (counts .flag)

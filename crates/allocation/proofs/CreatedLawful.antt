@@ -33,10 +33,9 @@ use Rattle.allocation.specs.Lengthened.{sectorsIn, Quiet, Lengthened}
 use Rattle.allocation.specs.NewLawful.{NewLawful}
 use Rattle.allocation.specs.Files.{Provided, started, created}
 use Rattle.allocation.proofs.OrderLaws.{order-typed}
-use Rattle.allocation.proofs.PlanLaws.{tables-least}
+use Rattle.allocation.proofs.FileLaws.{provided-head, started-made}
 use Rattle.allocation.proofs.PointerBytes.{parent-length, parent-attribute}
-use Rattle.allocation.proofs.StepLaws.{parent-popped, file-counted, parent-made}
-use Rattle.allocation.proofs.ChainedLaws.{chained-head}
+use Rattle.allocation.proofs.StepLaws.{parent-popped, file-counted}
 use Rattle.allocation.proofs.MadeHeld.{Begun, made-held}
 use Rattle.allocation.proofs.HeldLawful.{held-rules, quiet-R1, quiet-trans, calm-quiet, ends-used, in-one, Fields, fields-front, fields-file}
 use Rattle.allocation.proofs.AddHeld.{adds-held}
@@ -123,14 +122,11 @@ module _ (p : Places) (b : List ℕ) (n : New) (counts : List ℕ) (provided : P
   abbrev f : ℕ
   f = firstFreeOf b
 
-  some-head : Head p b
-  some-head =
-      let l = provided .lawful in
-      chained-head p b (record { r4 = l .r4; free = l .r9 .free }) (omega (arith, tables-least p b noPointer (inOrder counts), provided .tables))
+  abbrev some-head : Head p b
+  some-head = provided-head p b counts provided
 
-  start-made : Made (viewOf p b) (viewOf p (started p b n .books)) n (systemBit (n .attribute)) (directoryBit (n .attribute))
-  unfolding started
-  start-made = parent-made p b n (systemBit (n .attribute)) (directoryBit (n .attribute)) (provided .layout) some-head (new .name .most) (new .date .long)
+  abbrev start-made : Made (viewOf p b) (viewOf p (started p b n .books)) n (systemBit (n .attribute)) (directoryBit (n .attribute))
+  start-made = started-made p b n (provided .layout) some-head (new .name .most) (new .date .long)
 
   start-begun : Begun (viewOf p (started p b n .books)) f
   start-begun =

@@ -27,7 +27,8 @@ use Rattle.allocation.specs.declared.growth.Cursor.{Cursor}
 use Rattle.allocation.specs.Steps.{withPointer, childBytes, Extended}
 use Rattle.allocation.specs.Held.{Shapely, Held, Ends}
 use Rattle.allocation.proofs.PointerBytes.{word-kept, parent-kept, kept-pointer, pointer-start, pointer-count, pointer-read, child-length, child-word, child-parent, child-zero32, child-zero16}
-use Rattle.allocation.proofs.ChangeLaws.{Changed, Longer, member-begins, member-file, free-file, head-free, used-not, over-free, sum-first, ground-zone, ground-run, full-there, parent-there, begins-there, begins-was, pop-R4, changed-R5, changed-R6, pointers-at, sectors-at, changed-types, changed-R8, free-less, changed-R9}
+use Rattle.allocation.proofs.ChainedLaws.{head-free}
+use Rattle.allocation.proofs.ChangeLaws.{Changed, Longer, member-begins, member-file, free-file, used-not, over-free, sum-first, ground-zone, ground-run, full-there, parent-there, begins-there, begins-was, pop-R4, changed-R5, changed-R6, pointers-at, sectors-at, changed-types, changed-R8, free-less, changed-R9}
 use Rattle.allocation.proofs.WrittenHeld.{slots-end}
 
 -- ---- the new child's bytes
@@ -218,7 +219,8 @@ module _ (v v' : View) (f : ℕ) (q : Pointer) (c : Cursor) (w : Extended v v' f
       r8 = changed-R8 v v' f x change (h .r6) (h .r8);
       r9 = changed-R9 v v' f x change 0 0 (freeOne x (v .table x)) 0 0 0 0 (freeOne x t') 0 0 (ones-other x (v .table x) (λ g. omega (arith, free .low, free .word)))
           (ones-other x t' (λ g. omega (arith, child .word, free .low, small)))
-          (omega (arith, w .counts .active)) (omega (arith, w .counts .deleted)) (free-less v v' f x change free (w .free) (h .r9)) (omega (arith, w .counts .system)) (omega (arith, w .counts .directory)) (w .counts .flag) (h .r9);
+          (omega (arith, w .counts .active)) (omega (arith, w .counts .deleted)) (free-less v v' f x change free (w .free) (h .r9))
+          (omega (arith, w .counts .system)) (omega (arith, w .counts .directory)) (w .counts .flag) (h .r9);
     };
     ends = record {
       parent = parent;

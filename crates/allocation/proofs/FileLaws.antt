@@ -1,62 +1,56 @@
 -- A new file and a file that grows: what their blocks ask is there, from what a request provides. Assumes nothing.
 use mathlib.Core.Path.{_≡_, refl, sym, ap, _∙_}
-use mathlib.Core.Logic.{_≢_, inl, inr, ⊎-elim}
+use mathlib.Core.Logic.{_≢_, ⊎-elim}
 use mathlib.Core.List.{List, [], _∷_, append-nil}
 use Prim.Native.Nat.{ℕ, zero, suc, _+_, _-_, _*_, _/_, _%_, _≤_, _<_}
 use native.Mathlib.Nat.{div-le-self, mul-le-mul-right}
-use native.Mathlib.Decide.{ℕ-discrete, decLt}
+use native.Mathlib.Decide.{ℕ-discrete}
 use native.Mathlib.Omega.{arith}
 use lib.Dec.{eqb}
 use lib.ListN.{length, getD, replicate, length-append, length-set, length-replicate}
 use lib.Seq.{getD-set-same, getD-set-other}
-use borrow.Author.Tests.{eqb-true, eqb-false, eq-eqb, ne-eqb}
 use Rattle.field.specs.Numbers.{u16At}
 use Rattle.field.specs.Sum.{sumTo}
-use Rattle.field.proofs.Frames.{kept-refl}
 use Rattle.field.proofs.NumberLaws.{getD-zeros}
-use Rattle.field.proofs.Sums.{sum-at, sum-le, sum-part}
+use Rattle.field.proofs.Sums.{sum-le, sum-part}
 use Rattle.tables.specs.declared.places.Places.{Places}
 use Rattle.tables.specs.declared.kinds.Index.{Index}
 use Rattle.tables.specs.Kinds.{firstOf}
 use Rattle.tables.specs.Blocks.{Typed, blockOf}
-use Rattle.tables.specs.Indexes.{tableAt, wordOf, attributeOf, slotsOf, baseOf, startOf, countOf, Used}
+use Rattle.tables.specs.Indexes.{wordOf, attributeOf, baseOf}
 use Rattle.tables.specs.Open.{isOpen, openZones}
 use Rattle.tables.specs.Places.{Layout}
 use Rattle.tables.specs.Room.{countAt, perZone, spareIn, spareOf, lackOf, Enough}
 use Rattle.tables.specs.Sector1.{freeOf, firstFreeOf, activeOf, systemOf, directoryOf}
-use Rattle.tables.specs.Views.{View, viewOf, Free, Parent, walk, next, tally, onlyIf}
+use Rattle.tables.specs.Views.{View, viewOf, Begins, Free, Parent, tally, onlyIf}
 use Rattle.tables.specs.Lawful.{Lawful}
 use Rattle.tables.specs.Rules.R3.{R3}
-use Rattle.tables.specs.Rules.R5.{R5, FileChain}
-use Rattle.tables.specs.Rules.R6.{R6, Shape}
+use Rattle.tables.specs.Rules.R6.{Shape}
 use Rattle.tables.specs.Rules.R8.{directoryBit, systemBit}
-use Rattle.tables.specs.Rules.R9.{deletedBit, freeOne, activeOne, systemOne, directoryOne}
+use Rattle.tables.specs.Rules.R9.{deletedBit, activeOne, systemOne, directoryOne}
 use Rattle.tables.proofs.BlockLaws.{six}
-use Rattle.tables.proofs.ChainLaws.{walk-none}
 use Rattle.tables.proofs.ChoiceLaws.{ceil-enough}
-use Rattle.tables.proofs.CountLaws.{only-eq, only-ne, only-le, free-yes, free-no}
-use Rattle.tables.proofs.IndexLaws.{slots-parent}
+use Rattle.tables.proofs.CountLaws.{only-eq, only-ne, only-le}
 use Rattle.tables.proofs.LackLaws.{some-blocks, in-open, in-other, in-begun}
 use Rattle.allocation.specs.declared.tail.Tail.{Tail}
 use Rattle.allocation.specs.declared.growth.Cursor.{Cursor}
 use Rattle.allocation.specs.Choice.{inOrder, inTurn}
-use Rattle.allocation.specs.Tails.{noPointer}
+use Rattle.allocation.specs.Tails.{noPointer, tablesFor}
 use Rattle.allocation.specs.NewTables.{New, putParent, countFile}
 use Rattle.allocation.specs.Growth.{Growth, addBlock}
-use Rattle.allocation.specs.Last.{chainEnd, lastTable, usedPointers, lastPlace, cursorOf}
+use Rattle.allocation.specs.Last.{lastTable, usedPointers, lastPlace, cursorOf}
 use Rattle.allocation.specs.Stock.{Stocked, Plannable}
-use Rattle.allocation.specs.Steps.{Made}
+use Rattle.allocation.specs.Steps.{SameCounts, Made}
 use Rattle.allocation.specs.Ready.{Head, Chained, Ready}
 use Rattle.allocation.specs.Files.{onlyCounts, Provided, started, created, putLength, grown}
-use Rattle.allocation.proofs.SearchLaws.{either, find-high, find-passes, find-none}
+use Rattle.allocation.proofs.SearchLaws.{either}
 use Rattle.allocation.proofs.NextGround.{stocked-ground}
 use Rattle.allocation.proofs.OrderLaws.{order-typed, order-enough}
-use Rattle.allocation.proofs.LastLaws.{blankAt, base-low, place-in}
+use Rattle.allocation.proofs.LastLaws.{last-table, used-le, used-before, base-low, place-in, last-shape, last-some}
+use Rattle.allocation.proofs.ChangeLaws.{member-begins}
 use Rattle.allocation.proofs.StepLaws.{parent-popped, length-putParent, length-countFile, parent-made}
-use Rattle.allocation.proofs.PointerBytes.{parent-word}
-use Rattle.allocation.proofs.ChangeLaws.{Changed, free-file, parent-file, head-free, pop-R4}
 use Rattle.allocation.proofs.PlanLaws.{tables-least, tables-ground}
-use Rattle.allocation.proofs.ChainedLaws.{chained-head}
+use Rattle.allocation.proofs.ChainedLaws.{chained-head, chained-free, made-used, chained-made}
 
 -- ---- blocks of one type
 
@@ -152,15 +146,15 @@ module _ (p : Places) (b : List ℕ) (counts : List ℕ) (layout : Layout p (len
 
 -- ---- a new file
 
-chained-lawful : (p : Places) (b : List ℕ) → Lawful p b → Chained p b
+pub chained-lawful : (p : Places) (b : List ℕ) → Lawful p b → Chained p b
 chained-lawful p b h = record { r4 = h .r4; free = h .r9 .free }
 
-module _ (p : Places) (b counts : List ℕ) (h : Provided p b noPointer counts) where
-  provided-some : 1 ≤ freeOf b
-  provided-some = omega (arith, tables-least p b noPointer (inOrder counts), h .tables)
+-- it takes one table at least
+tables-head : (p : Places) (b ts : List ℕ) → Chained p b → tablesFor p b noPointer ts ≤ freeOf b → Head p b
+tables-head p b ts c l = chained-head p b c (omega (arith, tables-least p b noPointer ts))
 
-  pub provided-head : Head p b
-  provided-head = chained-head p b (chained-lawful p b (h .lawful)) provided-some
+pub provided-head : (p : Places) (b counts : List ℕ) → Provided p b noPointer counts → Head p b
+provided-head p b counts h = tables-head p b (inOrder counts) (chained-lawful p b (h .lawful)) (h .tables)
 
 -- R9's counts are at most the number of tables
 tally-few : (v : View) (f : ℕ → List ℕ → ℕ) → ((i : ℕ) (t : List ℕ) → f i t ≤ 1) → tally v f ≤ v .indexes
@@ -185,14 +179,17 @@ module _ (p : Places) (b counts name date : List ℕ) (long attribute : ℕ) (x 
   abbrev n : New
   n = record { name = name; date = date; length = long; attribute = attribute }
 
+  left : SameCounts (viewOf p b) (viewOf p (putParent p b n))
+  left = parent-popped p b n (h .layout) (provided-head p b counts h) ln ld .counts
+
   pub start-active : activeOf x < 4294967295
-  start-active = rw ex (omega (arith, parent-popped p b n (h .layout) (provided-head p b counts h) ln ld .counts .active, h .lawful .r9 .active, tally-few (viewOf p b) activeOne active-le, h .layout .few))
+  start-active = rw ex (omega (arith, left .active, h .lawful .r9 .active, tally-few (viewOf p b) activeOne active-le, h .layout .few))
 
   pub start-system : systemOf x + attribute / 64 % 2 < 65536
-  start-system = rw ex (omega (arith, parent-popped p b n (h .layout) (provided-head p b counts h) ln ld .counts .system, h .lawful .r9 .system, tally-few (viewOf p b) systemOne system-le, h .layout .few))
+  start-system = rw ex (omega (arith, left .system, h .lawful .r9 .system, tally-few (viewOf p b) systemOne system-le, h .layout .few))
 
   pub start-directory : directoryOf x + attribute / 32 % 2 < 65536
-  start-directory = rw ex (omega (arith, parent-popped p b n (h .layout) (provided-head p b counts h) ln ld .counts .directory, h .lawful .r9 .directory, tally-few (viewOf p b) directoryOne directory-le, h .layout .few))
+  start-directory = rw ex (omega (arith, left .directory, h .lawful .r9 .directory, tally-few (viewOf p b) directoryOne directory-le, h .layout .few))
 
 pub start-is : (p : Places) (b name date x y : List ℕ) (long attribute : ℕ) (f : Index) → f .0 ≡ firstFreeOf b
     → x ≡ putParent p b (record { name = name; date = date; length = long; attribute = attribute }) → y ≡ countFile x (attribute / 64 % 2) (attribute / 32 % 2) date
@@ -200,210 +197,130 @@ pub start-is : (p : Places) (b name date x y : List ℕ) (long attribute : ℕ) 
 unfolding started
 start-is p b name date x y long attribute f ef ex ey = rw (ey, ex, ← ef)
 
--- the free chain loses its head to a parent
-module _ (p : Places) (b b' : List ℕ) (n : New) (s d : ℕ) (w : Made (viewOf p b) (viewOf p b') n s d) (few : p .indexes ≤ 4096) (name : length (n .name) ≤ 24) (date : length (n .date) ≡ 6)
-    (free : Free (viewOf p b) (firstFreeOf b)) where
-  pub made-word : wordOf (tableAt p b' (firstFreeOf b)) ≡ firstFreeOf b
-  made-word = rw (w .new) (parent-word (firstFreeOf b) n name date)
+-- the file has its parent
+pub started-cursor : (p : Places) (b : List ℕ) (n : New) → started p b n .cursor ≡ record { tail = noPointer; table = record { 0 = firstFreeOf b } }
+unfolding started
+started-cursor p b n = refl
 
-  made-parent : Parent (viewOf p b') (firstFreeOf b)
-  made-parent = record { low = free .low; high = free .high; word = made-word }
-
-  made-changed : Changed (viewOf p b) (viewOf p b') (firstFreeOf b) (firstFreeOf b)
-  made-changed = record {
-    ground = w .ground;
-    indexes = refl;
-    few = few;
-    file = free .low;
-    low = free .low;
-    high = free .high;
-    kept = λ j lo hi ne. rw (w .there j lo hi ne) (kept-refl (tableAt p b j) 124 4);
-    there = λ j lo hi ne nf. w .there j lo hi ne;
-    was = inr (free-file (viewOf p b) (firstFreeOf b) free);
-    now = parent-file (viewOf p b') (firstFreeOf b) made-parent;
-    word = inl made-word;
-  }
-
-  made-tally : tally (viewOf p b') freeOne + 1 ≡ tally (viewOf p b) freeOne
-  unfolding tally
-  made-tally =
-      let x = firstFreeOf b - 1 in
-      let q : x + 1 ≡ firstFreeOf b = omega (arith, free .low) in
-      let one : freeOne (x + 1) (tableAt p b (x + 1)) ≡ 1 = free-yes (x + 1) (tableAt p b (x + 1)) (rw q (free .word)) in
-      let none : freeOne (x + 1) (tableAt p b' (x + 1)) ≡ 0 = free-no (x + 1) (tableAt p b' (x + 1)) (λ z. (let r : firstFreeOf b ≡ 0 = sym made-word ∙ (rw q at z) in omega (arith, free .low))) in
-      omega (
-        arith,
-        one,
-        none,
-        sum-at (p .indexes) x (λ k. freeOne (k + 1) (tableAt p b (k + 1))) (λ k. freeOne (k + 1) (tableAt p b' (k + 1))) (omega (arith, free .low, free .high))
-            (λ k l ne. ap (freeOne (k + 1)) (sym (w .there (k + 1) (omega arith) (omega arith) (λ e. ne (omega arith))))),
-      )
-
-  pub chained-made : Chained p b → Chained p b'
-  chained-made c = record {
-    r4 = pop-R4 (viewOf p b) (viewOf p b') (firstFreeOf b) (firstFreeOf b) made-changed refl (w .head) (c .r4);
-    free = omega (arith, w .free, c .free, made-tally);
-  }
-
-module _ (p : Places) (b counts : List ℕ) (n : New) (h : Provided p b noPointer counts) (name : length (n .name) ≤ 24) (date : length (n .date) ≡ 6) where
-  abbrev begun : List ℕ
-  begun = countFile (putParent p b n) (systemBit (n .attribute)) (directoryBit (n .attribute)) (n .date)
-
-  start-made : Made (viewOf p b) (viewOf p begun) n (systemBit (n .attribute)) (directoryBit (n .attribute))
-  start-made = parent-made p b n (systemBit (n .attribute)) (directoryBit (n .attribute)) (h .layout) (provided-head p b counts h) name date
-
-  start-layout : Layout p (length begun)
-  start-layout =
-      let l = length-putParent p b n (h .layout) (provided-head p b counts h) name date in
-      rw (length-countFile p (putParent p b n) (systemBit (n .attribute)) (directoryBit (n .attribute)) (n .date) (rw l (h .layout)) date, l) (h .layout)
-
-  start-free : Free (viewOf p b) (firstFreeOf b)
-  start-free = head-free (viewOf p b) (h .lawful .r4) (λ z. omega (arith, provided-head p b counts h .low))
-
-  pub ready-start : Ready p (firstFreeOf b) (started p b n) (inOrder counts)
+module _ (p : Places) (b : List ℕ) (n : New) (layout : Layout p (length b)) (head : Head p b) (name : length (n .name) ≤ 24) (date : length (n .date) ≡ 6) where
+  pub started-made : Made (viewOf p b) (viewOf p (started p b n .books)) n (systemBit (n .attribute)) (directoryBit (n .attribute))
   unfolding started
-  ready-start =
-      let head = provided-head p b counts h in
-      let stocked = order-stocked p b counts (h .layout) (h .lawful) (h .six) (h .room) in
-      let word = made-word p b begun n _ _ start-made (h .layout .few) name date start-free in
+  started-made = parent-made p b n (systemBit (n .attribute)) (directoryBit (n .attribute)) layout head name date
+
+  started-layout : Layout p (length (started p b n .books))
+  unfolding started
+  started-layout =
+      let l = length-putParent p b n layout head name date in
+      rw (length-countFile p (putParent p b n) (systemBit (n .attribute)) (directoryBit (n .attribute)) (n .date) (rw l layout) date, l) layout
+
+-- blocks of these types are then to be added; of the rules only those of zones, blocks and the free chain are asked
+module _ (p : Places) (b ts : List ℕ) (n : New) (layout : Layout p (length b)) (stocked : Stocked (viewOf p b) ts) (chained : Chained p b) (few : length ts < 1099511627776)
+    (tables : tablesFor p b noPointer ts ≤ freeOf b) (name : length (n .name) ≤ 24) (date : length (n .date) ≡ 6) where
+  pub begun-head : Head p b
+  begun-head = tables-head p b ts chained tables
+
+  abbrev made : Made (viewOf p b) (viewOf p (started p b n .books)) n (systemBit (n .attribute)) (directoryBit (n .attribute))
+  made = started-made p b n layout begun-head name date
+
+  abbrev long : Layout p (length (started p b n .books))
+  long = started-layout p b n layout begun-head name date
+
+  begun-free : Free (viewOf p b) (firstFreeOf b)
+  begun-free = chained-free p b chained (λ z. omega (arith, begun-head .low))
+
+  pub begun-ready : Ready p (firstFreeOf b) (started p b n) ts
+  begun-ready =
+      let b' = started p b n .books in
       record {
-        layout = start-layout;
-        stocked = stocked-ground (viewOf p b) (viewOf p begun) (start-made .ground) (inOrder counts) stocked;
-        chained = chained-made p b begun n _ _ start-made (h .layout .few) name date start-free (chained-lawful p b (h .lawful));
-        low = head .low;
-        high = head .high;
-        used = λ z. omega (arith, word, head .low);
-        count = omega arith;
-        from = omega arith;
-        at = omega arith;
-        few = omega (arith, order-most p b counts (h .layout) (h .lawful) (h .six) (h .room));
-        enough = omega (arith, tables-ground p p b begun noPointer (inOrder counts) (h .layout) start-layout (start-made .ground) stocked, h .tables, start-made .free, head .some);
-        file = omega (arith, head .high, h .layout .few);
+        layout = long;
+        stocked = stocked-ground (viewOf p b) (viewOf p b') (made .ground) ts stocked;
+        chained = chained-made p b b' n _ _ made name date begun-free chained;
+        low = rw (started-cursor p b n) (begun-head .low);
+        high = rw (started-cursor p b n) (begun-head .high);
+        used = rw (started-cursor p b n) (made-used p b b' n _ _ made name date begun-free);
+        count = rw (started-cursor p b n) (omega arith);
+        from = rw (started-cursor p b n) (omega arith);
+        at = rw (started-cursor p b n) (omega arith);
+        few = rw (started-cursor p b n) (omega (arith, few));
+        enough = rw (started-cursor p b n) (omega (arith, tables-ground p p b b' noPointer ts layout long (made .ground) stocked, tables, made .free, begun-head .some));
+        file = omega (arith, begun-head .high, layout .few);
       }
+
+pub ready-start : (p : Places) (b counts : List ℕ) (n : New) → Provided p b noPointer counts → length (n .name) ≤ 24 → length (n .date) ≡ 6
+    → Ready p (firstFreeOf b) (started p b n) (inOrder counts)
+ready-start p b counts n h =
+    begun-ready p b (inOrder counts) n (h .layout) (order-stocked p b counts (h .layout) (h .lawful) (h .six) (h .room)) (chained-lawful p b (h .lawful))
+    (omega (arith, order-most p b counts (h .layout) (h .lawful) (h .six) (h .room))) (h .tables)
 
 -- ---- a file that grows
 
--- the last table is one of the chain
-last-member : (v : View) (f m : ℕ) → FileChain v f m → (n k : ℕ) → k ≤ m → (j : ℕ) × (j ≤ m) × (chainEnd (next v) n (walk (next v) f k) ≡ walk (next v) f j)
-unfolding chainEnd walk
-last-member v f m c zero k l = (k, l, refl)
-last-member v f m c (suc n) k l = elim (ℕ-discrete (next v (walk (next v) f k)) 0) [
-  | yes e ↦ (k, l, rw (eq-eqb (next v (walk (next v) f k)) 0 e))
-  | no ne ↦ (let r = last-member v f m c n (suc k) (let d : (k ≡ m → ⊥) = λ q. ne (ap (λ (i : ℕ). walk (next v) f (suc i)) q ∙ c .ends) in omega arith) in
-      (r .0, r .1, rw (ne-eqb (next v (walk (next v) f k)) 0 ne) (r .2)))
-]
-
--- "used pointers come first": where one is used, the first is
-first-used : (v : View) (i : ℕ) (t : List ℕ) → Shape v i t → (j : ℕ) → j < slotsOf i t → Used i t j → Used i t 0
-first-used v i t s zero l u = u
-first-used v i t s (suc j) l u = first-used v i t s j (omega arith) (s .first j l u)
-
--- the last of them is used
-module _ (v : View) (i : ℕ) (t : List ℕ) (s : Shape v i t) (some : 0 < slotsOf i t) (u : Used i t 0) where
-  used-some : 1 ≤ usedPointers i t
-  unfolding usedPointers
-  used-some = elim (ℕ-discrete (usedPointers i t) 0) [
-    | yes e ↦ (let q = find-passes (blankAt t (baseOf i t)) (slotsOf i t) 0 (omega arith) in
-        let z = eqb-true (startOf i t 0 + countOf i t 0) 0 (rw e at q) in absurd (omega arith))
-    | no ne ↦ omega arith
-  ]
-
-  used-most : usedPointers i t ≤ slotsOf i t
-  unfolding usedPointers
-  used-most = omega (arith, find-high (blankAt t (baseOf i t)) (slotsOf i t) 0)
-
-  last-used : Used i t (usedPointers i t - 1)
-  unfolding usedPointers
-  last-used =
-      let k = usedPointers i t - 1 in
-      let ne = eqb-false (startOf i t k + countOf i t k) 0 (find-none (blankAt t (baseOf i t)) (slotsOf i t) 0 k (omega (arith, used-some)) (omega arith)) in
-      elim (decLt 0 (startOf i t k + countOf i t k)) [ yes h ↦ h | no h ↦ absurd (ne (omega arith)) ]
-
-  pub place-is : lastPlace i t ≡ baseOf i t + 6 * (usedPointers i t - 1)
+-- the last of a table's pointers
+module _ (v : View) (i : ℕ) (t : List ℕ) (s : Shape v i t) (some : 1 ≤ usedPointers i t) where
+  place-is : lastPlace i t ≡ baseOf i t + 6 * (usedPointers i t - 1)
   unfolding lastPlace
-  place-is = omega (arith, used-some)
+  place-is = omega arith
 
-  pub place-low : 22 ≤ lastPlace i t
+  place-low : 22 ≤ lastPlace i t
   place-low = omega (arith, place-is, base-low i t)
 
-  pub place-high : lastPlace i t ≤ 118
-  place-high = omega (arith, place-is, place-in i t, used-some)
+  place-high : lastPlace i t ≤ 118
+  place-high = omega (arith, place-is, place-in i t)
 
-  pub place-count : u16At t (lastPlace i t + 4) ≤ 32767
-  place-count = rw place-is (s .used (usedPointers i t - 1) (omega (arith, used-some, used-most)) last-used .few)
+  place-count : u16At t (lastPlace i t + 4) ≤ 32767
+  place-count = rw place-is (s .used (usedPointers i t - 1) (omega (arith, used-le i t)) (used-before i t (usedPointers i t - 1) (omega arith)) .few)
 
--- a table of a file: it is not free, and has a pointer
-record Filed (v : View) (i : ℕ) : Type 0 where
-  low : 1 ≤ i
-  high : i ≤ v .indexes
-  word : wordOf (v .table i) ≢ 0
-  some : 0 < slotsOf i (v .table i)
-  used : Used i (v .table i) 0
+module _ (p : Places) (b : List ℕ) (f : ℕ) (lay : Layout p (length b)) (law : Lawful p b) (parent : Parent (viewOf p b) f) where
+  abbrev v : View
+  v = viewOf p b
 
-member-filed : (v : View) (f : ℕ) → v .indexes ≤ 4096 → (r : R5 v) → R6 v → Parent v f → (k : ℕ) → k ≤ r .long f → Filed v (walk (next v) f k)
-member-filed v f few r r6 parent zero l =
-    let nz : wordOf (v .table f) ≢ 0 = λ z. omega (arith, parent .low, parent .word) in
-    rw (walk-none (next v) f) (record {
-      low = parent .low;
-      high = parent .high;
-      word = nz;
-      some = omega (arith, slots-parent f (v .table f) nz (parent .word));
-      used = r6 f (omega (arith, parent .high)) (parent .low) .one (parent .word);
-    })
-member-filed v f few r r6 parent (suc k) l =
-    let i = walk (next v) f (suc k) in
-    let c = r .chain f parent .each k (omega arith) in
-    let one = r .one i c in
-    record {
-      low = c .low;
-      high = c .high;
-      word = λ z. omega (arith, c .high, c .word);
-      some = omega (arith, one .1);
-      used = first-used v i (v .table i) (r6 i (omega (arith, c .high)) (c .low)) (one .0) (one .1) (one .2);
-    }
+  abbrev i : ℕ
+  i = lastTable v f
 
-last-filed : (v : View) (f : ℕ) → v .indexes ≤ 4096 → R5 v → R6 v → Parent v f → Filed v (lastTable v f)
-unfolding lastTable walk
-last-filed v f few r r6 parent =
-    let m = last-member v f (r .long f) (r .chain f parent) (v .indexes) 0 (omega arith) in
-    rw (m .2) (member-filed v f few r r6 parent (m .0) (m .1))
+  last-begins : (w : ℕ) × Begins v i w × (w ≢ 0)
+  last-begins =
+      let n = law .r5 .long f in
+      rw (last-table v f n parent (law .r5 .chain f parent)) at (member-begins v (lay .few) f n parent (law .r5 .chain f parent) n (omega arith))
+
+  abbrev shape : Shape v i (v .table i)
+  shape = last-shape v f (law .r5) (law .r6) parent
+
+  abbrev some : 1 ≤ usedPointers i (v .table i)
+  some = last-some v f (law .r5) (law .r6) parent
+
+  pub cursor-bounds : (cursorOf p b f .tail .last .count ≤ 32767) × (cursorOf p b f .tail .at ≤ 118) × (cursorOf p b f .tail .tables ≤ 1)
+  unfolding cursorOf
+  cursor-bounds = (place-count v i (v .table i) shape some, place-high v i (v .table i) shape some, omega arith)
+
+  grow-from : 22 ≤ cursorOf p b f .tail .at
+  unfolding cursorOf
+  grow-from = place-low v i (v .table i) shape some
 
 pub ready-grow : (p : Places) (b : List ℕ) (f : ℕ) (counts : List ℕ) → Provided p b (cursorOf p b f .tail) counts → Parent (viewOf p b) f
     → Ready p f (record { books = b; cursor = cursorOf p b f }) (inOrder counts)
 unfolding cursorOf
 ready-grow p b f counts h parent =
-    let i = lastTable (viewOf p b) f in
-    let l = last-filed (viewOf p b) f (h .layout .few) (h .lawful .r5) (h .lawful .r6) parent in
-    let s = h .lawful .r6 i (omega (arith, l .high)) (l .low) in
+    let l = last-begins p b f (h .layout) (h .lawful) parent in
+    let c = cursor-bounds p b f (h .layout) (h .lawful) parent in
     record {
       layout = h .layout;
       stocked = order-stocked p b counts (h .layout) (h .lawful) (h .six) (h .room);
       chained = chained-lawful p b (h .lawful);
-      low = l .low;
-      high = l .high;
-      used = l .word;
-      count = place-count (viewOf p b) i (tableAt p b i) s (l .some) (l .used);
-      from = place-low (viewOf p b) i (tableAt p b i) s (l .some) (l .used);
-      at = place-high (viewOf p b) i (tableAt p b i) s (l .some) (l .used);
+      low = l .1 .low;
+      high = l .1 .high;
+      used = λ z. l .2 (sym (l .1 .word) ∙ z);
+      count = c .0;
+      from = grow-from p b f (h .layout) (h .lawful) parent;
+      at = c .1;
       few = omega (arith, order-most p b counts (h .layout) (h .lawful) (h .six) (h .room));
       enough = omega (arith, h .tables);
       file = omega (arith, parent .high, h .layout .few);
     }
 
--- its last pointer, and where that stands
-pub cursor-bounds : (p : Places) (b : List ℕ) (f : ℕ) → Layout p (length b) → Lawful p b → Parent (viewOf p b) f
-    → (cursorOf p b f .tail .last .count ≤ 32767) × (cursorOf p b f .tail .at ≤ 118) × (cursorOf p b f .tail .tables ≤ 1)
-unfolding cursorOf
-cursor-bounds p b f lay law parent =
-    let i = lastTable (viewOf p b) f in
-    let l = last-filed (viewOf p b) f (lay .few) (law .r5) (law .r6) parent in
-    let s = law .r6 i (omega (arith, l .high)) (l .low) in
-    (place-count (viewOf p b) i (tableAt p b i) s (l .some) (l .used), place-high (viewOf p b) i (tableAt p b i) s (l .some) (l .used), omega arith)
-
 -- ---- the ways out of the functions
 
 module _ (p : Places) (b counts name date : List ℕ) (long attribute : ℕ) (x : List ℕ) (f : Index) (t : Tail) (ef : f .0 ≡ firstFreeOf b)
-    (ex : _≡_ {A = Growth} (record { books = x; cursor = record { tail = noPointer; table = f } }) (started p b (record { name = name; date = date; length = long; attribute = attribute }))) (et : t ≡ noPointer) where
+    (ex : _≡_ {A = Growth} (record { books = x; cursor = record { tail = noPointer; table = f } }) (started p b (record { name = name; date = date; length = long; attribute = attribute })))
+    (et : t ≡ noPointer) where
   abbrev file : New
   file = record { name = name; date = date; length = long; attribute = attribute }
 
@@ -413,7 +330,9 @@ module _ (p : Places) (b counts name date : List ℕ) (long attribute : ℕ) (x 
   pub create-ready : Provided p b noPointer counts → length name ≤ 24 → length date ≡ 6 → Ready p (f .0) (record { books = x; cursor = record { tail = t; table = f } }) (inOrder counts)
   create-ready h ln ld = rw (create-from, ef) (ready-start p b counts file h ln ld)
 
-  pub create-is : (y : List ℕ) (r : Cursor) → _≡_ {A = Growth} (record { books = y; cursor = r }) (inTurn (addBlock p (f .0)) (inOrder counts) (record { books = x; cursor = record { tail = t; table = f } })) → y ≡ created p b file counts
+  pub create-is : (y : List ℕ) (r : Cursor)
+      → _≡_ {A = Growth} (record { books = y; cursor = r }) (inTurn (addBlock p (f .0)) (inOrder counts) (record { books = x; cursor = record { tail = t; table = f } }))
+      → y ≡ created p b file counts
   unfolding created
   create-is y r ey =
       let e : _≡_ {A = Growth} (record { books = y; cursor = r }) (inTurn (addBlock p (firstFreeOf b)) (inOrder counts) (started p b file)) = rw (create-from, ef) at ey in
@@ -423,7 +342,9 @@ module _ (p : Places) (b : List ℕ) (f : ℕ) (counts : List ℕ) (c : Cursor) 
   pub grow-ready : Provided p b (cursorOf p b f .tail) counts → Parent (viewOf p b) f → Ready p f (record { books = b; cursor = c }) (inOrder counts)
   grow-ready h parent = rw ec (ready-grow p b f counts h parent)
 
-  pub grow-is : (x y date : List ℕ) (long : ℕ) (r : Cursor) → _≡_ {A = Growth} (record { books = x; cursor = r }) (inTurn (addBlock p f) (inOrder counts) (record { books = b; cursor = c })) → y ≡ putLength p x f long date → y ≡ grown p b f counts long date
+  pub grow-is : (x y date : List ℕ) (long : ℕ) (r : Cursor)
+      → _≡_ {A = Growth} (record { books = x; cursor = r }) (inTurn (addBlock p f) (inOrder counts) (record { books = b; cursor = c }))
+      → y ≡ putLength p x f long date → y ≡ grown p b f counts long date
   unfolding grown
   grow-is x y date long r ex ey =
       let e : _≡_ {A = Growth} (record { books = x; cursor = r }) (inTurn (addBlock p f) (inOrder counts) (record { books = b; cursor = cursorOf p b f })) = rw ec at ex in

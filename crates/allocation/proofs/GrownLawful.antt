@@ -1,22 +1,19 @@
 -- A file that grows: where its pointers end, how many blocks it lacks, and that the books meet the nine rules again. Assumes nothing.
 use mathlib.Core.Path.{_≡_, refl, sym, ap, ap₂, _∙_}
-use mathlib.Core.Logic.{_≢_, _⊎_, inl, inr, ⊎-elim}
-use mathlib.Core.Bool.{Bool, true≢false}
+use mathlib.Core.Logic.{_≢_, inl, inr}
 use mathlib.Core.List.{List}
-use Prim.Native.Nat.{ℕ, zero, suc, _+_, _-_, _*_, _≤_, _<_}
-use native.Mathlib.Nat.{not-suc-le-zero, mul-comm, mul-assoc}
+use Prim.Native.Nat.{ℕ, suc, _+_, _-_, _*_, _≤_, _<_}
+use native.Mathlib.Nat.{mul-comm, mul-assoc}
 use native.Mathlib.Decide.{ℕ-discrete}
 use native.Mathlib.Omega.{arith}
-use lib.Dec.{eqb}
 use lib.ListN.{length}
-use borrow.Author.Tests.{eq-eqb, ne-eqb}
 use Rattle.field.specs.Numbers.{putU32}
 use Rattle.field.specs.Kept.{Kept}
 use Rattle.field.specs.Parts.{over}
 use Rattle.field.proofs.Frames.{kept-refl, kept-trans, kept-wider}
 use Rattle.field.proofs.NumberLaws.{u16-kept, u32-kept, kept-putU32, u32-put-same}
 use Rattle.field.proofs.PartLaws.{kept-over, over-part, same-at}
-use Rattle.field.proofs.Sums.{sum-out, sum-one, sum-same}
+use Rattle.field.proofs.Sums.{sum-same}
 use Rattle.tables.specs.declared.places.Places.{Places}
 use Rattle.tables.specs.Kinds.{zoneOf}
 use Rattle.tables.specs.Blocks.{Typed, blockOf}
@@ -25,20 +22,17 @@ use Rattle.tables.specs.Dates.{Date}
 use Rattle.tables.specs.Places.{Layout}
 use Rattle.tables.specs.Same.{Ground}
 use Rattle.tables.specs.Indexes.{tableAt, wordOf, parentOf, nameOf, createdOf, changedOf, lengthOf, attributeOf, minus, slotsOf, baseOf, startOf, countOf, Used, sectorsOf, fileOf}
-use Rattle.tables.specs.Views.{View, viewOf, Begins, Parent, Child, walk, next, cov, overOf, Under}
-use Rattle.tables.specs.Rules.R5.{FileChain, Stands}
-use Rattle.tables.specs.Rules.R6.{Shape}
+use Rattle.tables.specs.Views.{View, viewOf, Parent, Child, walk, next, cov, overOf, Under}
+use Rattle.tables.specs.Rules.R5.{Stands}
 use Rattle.tables.specs.Rules.R8.{fileSectors, fileType, OneType, variableBit, File}
-use Rattle.tables.specs.Rules.R9.{freeOne, activeOne, deletedOne, systemOne, directoryOne}
 use Rattle.tables.specs.Lawful.{Lawful}
 use Rattle.tables.proofs.BlockLaws.{block-of}
 use Rattle.tables.proofs.ChoiceLaws.{ceil-enough}
 use Rattle.tables.proofs.CountLaws.{only-eq}
 use Rattle.tables.proofs.SameLaws.{ground-R2, ground-R3}
 use Rattle.tables.proofs.FrameLaws.{table-kept, sector1-same, sector1-tails}
-use Rattle.tables.proofs.ChainLaws.{walk-none, walk-once}
-use Rattle.tables.proofs.IndexLaws.{length-table, slots-parent, base-parent}
-use Rattle.allocation.specs.Last.{chainEnd, lastTable, usedPointers, lastPlace, cursorOf}
+use Rattle.tables.proofs.IndexLaws.{length-table, base-parent}
+use Rattle.allocation.specs.Last.{lastTable, usedPointers, lastPlace, cursorOf}
 use Rattle.allocation.specs.Held.{Shapely, Held, Ends, InType, nothing}
 use Rattle.allocation.specs.Steps.{SameCounts}
 use Rattle.allocation.specs.Choice.{inOrder, inTurn}
@@ -47,115 +41,16 @@ use Rattle.allocation.specs.Growth.{Growth, addBlock}
 use Rattle.allocation.specs.Ready.{Ready}
 use Rattle.allocation.specs.Lengthened.{sectorsIn, AllOf, Quiet, Lengthened}
 use Rattle.allocation.specs.Files.{Provided, blocksFor, putLength, grown}
-use Rattle.allocation.proofs.SearchLaws.{find-high, find-passes, find-none}
-use Rattle.allocation.proofs.LastLaws.{base-low}
+-- passed on to users of this file: what is known of a file's last table and of the used pointers there
+pub use Rattle.allocation.proofs.LastLaws.{file-short, last-table, used-le, used-before, used-not, used-some}
+use Rattle.allocation.proofs.LastLaws.{base-low, last-shape, last-some}
 use Rattle.allocation.proofs.MadeHeld.{lawful-held}
 use Rattle.allocation.proofs.HeldLawful.{held-rules, quiet-R1, calm-quiet, quiet-trans, ends-used, in-one, file-typed, some-sectors, Fields, table-fields, fields-front, fields-file}
 use Rattle.allocation.proofs.AddHeld.{adds-held}
 use Rattle.allocation.proofs.TableLaws.{table-put32, table-over, table-other}
 use Rattle.allocation.proofs.StepLaws.{Still, still-table}
 use Rattle.allocation.proofs.PointerBytes.{word-kept, parent-kept, slots-kept, file-kept, start-kept, count-kept}
-use Rattle.allocation.proofs.ChangeLaws.{Changed, Stays, stays-same, member-begins, parent-file, ground-run, walk-stays, chain-stays, parent-there, begins-was, stay-R4, changed-R5, changed-R6, pointers-at, sectors-at, under-zone, changed-types, changed-R8, ones-same, changed-R9}
-
--- ---- no chain is longer than the number of index tables
-
-among : (F : ℕ → ℕ) (m i : ℕ) → ((k : ℕ) × (k < m) × (F k ≡ i)) ⊎ ((k : ℕ) → k < m → F k ≢ i)
-among F zero i = inr (λ k l. absurd (not-suc-le-zero l))
-among F (suc m) i =
-    elim (ℕ-discrete (F m) i) [
-      | yes e ↦ inl (m, omega arith, e)
-      | no ne ↦ ⊎-elim (λ r. inl (r .0, omega (arith, r .1), r .2)) (λ h. inr (λ k l. elim (ℕ-discrete k m) [ yes q ↦ (λ e. ne (ap F (sym q) ∙ e)) | no q ↦ h k (omega arith) ])) (among F m i)
-    ]
-
--- m different numbers below n
-different-le : (n m : ℕ) (F : ℕ → ℕ) → ((k : ℕ) → k < m → F k < n) → ((k : ℕ) → k < m → (j : ℕ) → j < k → F j ≢ F k) → m ≤ n
-different-le n m F below once =
-    let s = sum-out n m F (λ i. 1) rest below once (λ k l. zero-at (F k) (k, l, refl) (among F m (F k))) (λ i l ne. one-at i ne (among F m i)) in
-    omega (arith, sum-one m (λ k. 1) (λ k l. refl), sum-one n (λ k. 1) (λ k l. refl))
-  where
-    side : (i : ℕ) → ((k : ℕ) × (k < m) × (F k ≡ i)) ⊎ ((k : ℕ) → k < m → F k ≢ i) → ℕ
-    side i (inl r) = 0
-    side i (inr h) = 1
-
-    rest : ℕ → ℕ
-    rest i = side i (among F m i)
-
-    zero-at : (i : ℕ) → ((k : ℕ) × (k < m) × (F k ≡ i)) → (d : ((k : ℕ) × (k < m) × (F k ≡ i)) ⊎ ((k : ℕ) → k < m → F k ≢ i)) → side i d ≡ 0
-    zero-at i r (inl q) = refl
-    zero-at i r (inr h) = absurd (h (r .0) (r .1) (r .2))
-
-    one-at : (i : ℕ) → ((k : ℕ) → k < m → F k ≢ i) → (d : ((k : ℕ) × (k < m) × (F k ≡ i)) ⊎ ((k : ℕ) → k < m → F k ≢ i)) → side i d ≡ 1
-    one-at i ne (inl r) = absurd (ne (r .0) (r .1) (r .2))
-    one-at i ne (inr h) = refl
-
-end-here : (link : ℕ → ℕ) (n i : ℕ) → link i ≡ 0 → chainEnd link n i ≡ i
-unfolding chainEnd
-end-here link zero i e = refl
-end-here link (suc n) i e = rw (eq-eqb (link i) 0 e)
-
-module _ (v : View) (f m : ℕ) (parent : Parent v f) (ch : FileChain v f m) where
-  member : (k : ℕ) → k < suc m → (w : ℕ) × Begins v (walk (next v) f k) w
-  member zero l = (f, rw (walk-none (next v) f) parent)
-  member (suc k) l = (_, ch .each k (omega arith))
-
-  pub file-short : suc m ≤ v .indexes
-  file-short =
-      different-le (v .indexes) (suc m) (λ k. walk (next v) f k - 1) (λ k l. omega (arith, is k l .low, is k l .high))
-      (λ k l j lj e. walk-once (next v) f (suc m) (ch .ends) (λ k l. is k l .low) k l j lj (omega (arith, is k l .low, is j (omega arith) .low)))
-    where
-      is : (k : ℕ) (l : k < suc m) → Begins v (walk (next v) f k) (member k l .0)
-      is k l = member k l .1
-
-  -- ---- the last table
-
-  end-at : (d n k : ℕ) → k + d ≡ m → d ≤ n → chainEnd (next v) n (walk (next v) f k) ≡ walk (next v) f m
-  unfolding chainEnd walk
-  end-at zero n k e l =
-      let q : k ≡ m = omega arith in
-      end-here (next v) n (walk (next v) f k) (ap (λ (i : ℕ). walk (next v) f (suc i)) q ∙ ch .ends) ∙ ap (walk (next v) f) q
-  end-at (suc d) zero k e l = absurd (omega arith)
-  end-at (suc d) (suc n) k e l =
-      let b = ch .each k (omega arith) in
-      rw (ne-eqb (next v (walk (next v) f k)) 0 (λ z. omega (arith, b .low))) (end-at d n (suc k) (omega arith) (omega arith))
-
-  pub last-table : walk (next v) f m ≡ lastTable v f
-  unfolding lastTable
-  last-table = sym (end-at m (v .indexes) 0 (omega arith) (omega (arith, file-short))) ∙ ap (chainEnd (next v) (v .indexes)) (walk-none (next v) f)
-
--- ---- a table's used pointers
-
-module _ (i : ℕ) (t : List ℕ) where
-  abbrev blank : ℕ → Bool
-  blank j = eqb (startOf i t j + countOf i t j) 0
-
-  pub used-le : usedPointers i t ≤ slotsOf i t
-  unfolding usedPointers
-  used-le = omega (arith, find-high blank (slotsOf i t) 0)
-
-  pub used-before : (j : ℕ) → j < usedPointers i t → Used i t j
-  unfolding usedPointers
-  used-before j l = elim (ℕ-discrete (startOf i t j + countOf i t j) 0) [
-    | yes z ↦ absurd (true≢false (sym (eq-eqb (startOf i t j + countOf i t j) 0 z) ∙ find-none blank (slotsOf i t) 0 j l (omega arith)))
-    | no ne ↦ omega arith
-  ]
-
-  module _ (first : (j : ℕ) → suc j < slotsOf i t → Used i t (suc j) → Used i t j) where
-    used-down : (d j : ℕ) → j + d < slotsOf i t → Used i t (j + d) → Used i t j
-    used-down zero j l u = let e : j + 0 ≡ j = omega arith in rw e at u
-    used-down (suc d) j l u = let e : j + suc d ≡ suc (j + d) = omega arith in used-down d j (omega arith) (first (j + d) (omega arith) (rw e at u))
-
-    -- the first of the others is unused, so all are
-    pub used-not : (j : ℕ) → j < slotsOf i t → usedPointers i t ≤ j → Used i t j → ⊥
-    unfolding usedPointers
-    used-not j l o u =
-        let k = usedPointers i t in
-        let e : k + (j - k) ≡ j = omega arith in
-        let d : (k + (j - k) < slotsOf i t) × Used i t (k + (j - k)) = rw e (l, u) in
-        let w = used-down (j - k) k (d .0) (d .1) in
-        true≢false (sym (find-passes blank (slotsOf i t) 0 (omega arith)) ∙ ne-eqb (startOf i t k + countOf i t k) 0 (λ z. omega arith))
-
-    pub used-some : (j : ℕ) → j < slotsOf i t → Used i t j → 1 ≤ usedPointers i t
-    used-some j l u = elim (ℕ-discrete (usedPointers i t) 0) [ yes z ↦ absurd (used-not j l (omega arith) u) | no ne ↦ omega arith ]
+use Rattle.allocation.proofs.ChangeLaws.{Changed, Stays, stays-same, member-begins, parent-file, ground-run, walk-stays, chain-stays, parent-there, begins-was, stay-R4, changed-R5, changed-R6, pointers-at, sectors-at, under-zone, changed-types, changed-R8, stay-R9}
 
 -- ---- where file f goes on
 
@@ -166,49 +61,21 @@ module _ (p : Places) (b : List ℕ) (f : ℕ) (h : Lawful p b) (parent : Parent
   abbrev i : ℕ
   i = lastTable v f
 
-  m : ℕ
-  m = h .r5 .long f
-
-  last : walk (next v) f m ≡ i
-  unfolding m
-  last = last-table v f (h .r5 .long f) parent (h .r5 .chain f parent)
-
-  last-begins : (w : ℕ) × Begins v i w
-  unfolding m
-  last-begins = rw last at (member v f (h .r5 .long f) parent (h .r5 .chain f parent) m (omega arith))
-
-  last-shape : Shape v i (v .table i)
-  last-shape = let q = last-begins .1 in h .r6 i (omega (arith, q .high)) (q .low)
-
-  -- it has a pointer at least
-  last-used : (k : ℕ) → walk (next v) f k ≡ i → k ≤ m → 1 ≤ usedPointers i (v .table i)
-  unfolding m
-  last-used zero e l =
-      let q : f ≡ i = sym (walk-none (next v) f) ∙ e in
-      let s = slots-parent f (v .table f) (λ z. omega (arith, parent .low, parent .word)) (parent .word) in
-      let u = h .r6 f (omega (arith, parent .high)) (parent .low) .one (parent .word) in
-      used-some i (v .table i) (last-shape .first) 0 (rw q at (let o : 0 < slotsOf f (v .table f) = omega arith in o)) (rw q at u)
-  last-used (suc k) e l =
-      let o = h .r5 .one i (rw e at (h .r5 .chain f parent .each k (omega arith))) in
-      used-some i (v .table i) (last-shape .first) (o .0) (o .1) (o .2)
-
   pub cursor-ends : Ends v f (cursorOf p b f)
-  unfolding cursorOf lastPlace m
-  cursor-ends =
-      let u = used-le i (v .table i) in
-      record {
-        parent = parent;
-        long = m;
-        chain = h .r5 .chain f parent;
-        table = last;
-        slot = usedPointers i (v .table i);
-        within = u;
-        place = omega (arith, base-low i (v .table i));
-        used = used-before i (v .table i);
-        unused = used-not i (v .table i) (last-shape .first);
-        pointer = λ l. refl;
-        none = λ z. absurd (omega (arith, last-used m last (omega arith)));
-      }
+  unfolding cursorOf lastPlace
+  cursor-ends = record {
+    parent = parent;
+    long = h .r5 .long f;
+    chain = h .r5 .chain f parent;
+    table = last-table v f (h .r5 .long f) parent (h .r5 .chain f parent);
+    slot = usedPointers i (v .table i);
+    within = used-le i (v .table i);
+    place = omega (arith, base-low i (v .table i));
+    used = used-before i (v .table i);
+    unused = used-not i (v .table i) (last-shape v f (h .r5) (h .r6) parent .first);
+    pointer = λ l. refl;
+    none = λ z. absurd (omega (arith, last-some v f (h .r5) (h .r6) parent));
+  }
 
 -- ---- a file of lawful books
 
@@ -342,11 +209,7 @@ module _ (v v' : View) (f : ℕ) (w : Resized v v' f) (few : v .indexes ≤ 4096
     r7 = λ s l lo. (let l' : s < 1024 * (v .zones - 1) = rw (w .ground .zones) at l in
         omega (arith, pointers-at v v' f f change s, same-over s, h .r7 s l' lo, w .ground .bit s (omega arith)));
     r8 = changed-R8 v v' f f change (h .r6) (h .r8);
-    r9 = changed-R9 v v' f f change (activeOne f t) (deletedOne f t) (freeOne f t) (systemOne f t) (directoryOne f t)
-        (activeOne f t) (deletedOne f t) (freeOne f t) (systemOne f t) (directoryOne f t)
-        (record { active = refl; deleted = refl; free = refl; system = refl; directory = refl })
-        (ones-same f t t' (word-kept f (w .here) (omega arith)) (λ e. u16-kept 44 (w .here) (inr (omega arith))))
-        (omega (arith, w .counts .active)) (omega (arith, w .counts .deleted)) (omega (arith, w .free)) (omega (arith, w .counts .system)) (omega (arith, w .counts .directory)) (w .counts .flag) (h .r9);
+    r9 = stay-R9 v v' f f change (word-kept f (w .here) (omega arith)) (λ e. u16-kept 44 (w .here) (inr (omega arith))) (w .counts) (w .free) (h .r9);
   }
 
   resized-sectors : fileSectors v' f ≡ fileSectors v f
@@ -357,7 +220,8 @@ module _ (v v' : View) (f : ℕ) (w : Resized v v' f) (few : v .indexes ≤ 4096
     where
       new : (j s : ℕ) → Under v' f j s → v' .zone (zoneOf s) .ztype ≡ y
       new j s u =
-          let o : Under v f j s = record { low = parent .low; high = parent .high; slot = rw same-slots at (u .slot); from = rw (same-start j) at (u .from); to = rw (same-start j, same-count j) at (u .to) } in
+          let o : Under v f j s
+          = record { low = parent .low; high = parent .high; slot = rw same-slots at (u .slot); from = rw (same-start j) at (u .from); to = rw (same-start j, same-count j) at (u .to) } in
           rw (under-zone v v' f f change (h .r6) f j s o) (all f j s (parent-file v f parent) o)
 
 -- ---- as bytes
@@ -479,16 +343,19 @@ module _ (p : Places) (b : List ℕ) (f : ℕ) (counts : List ℕ) (long : ℕ) 
 
     used : Used f (tableAt p c f) 0
     used =
+        let some = some-sectors (viewOf p b) f (was p b f old) parent (was-used p b f old parent) in
         resized-used (viewOf p a) (viewOf p c) f resized (lay .few) (h .ends .parent) (h .held)
-        (ends-used (viewOf p a) f (lay .few) (h .held .r5) (g .cursor) (h .ends) (h .held .r4 .own) (omega (arith, h .sectors, some-sectors (viewOf p b) f (was p b f old) parent (was-used p b f old parent))))
+        (ends-used (viewOf p a) f (lay .few) (h .held .r5) (g .cursor) (h .ends) (h .held .r4 .own) (omega (arith, h .sectors, some)))
 
     now-parent : Parent (viewOf p c) f
     now-parent = resized-parent (viewOf p a) (viewOf p c) f resized (lay .few) (h .ends .parent) (h .held)
 
     fields : Fields (tableAt p c f) (nameOf (tableAt p b f)) (createdOf (tableAt p b f)) date long (attributeOf (tableAt p b f))
     fields =
+        let t = tableAt p b f in
+        let old = table-fields t (length-table p b f lay (parent .low) (parent .high)) in
         rw (length-new p a f long date lay-a (parent .low) (parent .high) (valid .long)) (new-fields p a f long date lay-a (parent .low) (parent .high) (valid .long)
-        (fields-front {t = tableAt p b f} {changed = changedOf (tableAt p b f)} {long = lengthOf (tableAt p b f)} (length-table p a f lay-a (parent .low) (parent .high)) (h .front) (table-fields (tableAt p b f) (length-table p b f lay (parent .low) (parent .high)))))
+        (fields-front {t = t} {changed = changedOf t} {long = lengthOf t} (length-table p a f lay-a (parent .low) (parent .high)) (h .front) old))
 
     module _ (variable : variableBit (attributeOf (tableAt p b f)) ≡ 1) (all : AllOf (inOrder counts) (fileType (viewOf p b) f)) (least : long < 2147483648)
         (most : long ≤ 1024 * (fileSectors (viewOf p b) f + sectorsIn (inOrder counts))) where
@@ -500,8 +367,8 @@ module _ (p : Places) (b : List ℕ) (f : ℕ) (counts : List ℕ) (long : ℕ) 
 
       lawful : Lawful p c
       lawful = held-rules p c f (quiet-R1 p b c quiet (old .r1)) held (λ q. used) (λ w.
-          fields-file (viewOf p c) f (tableAt p c f) (nameOf (tableAt p b f)) (createdOf (tableAt p b f)) date long (attributeOf (tableAt p b f)) fields (was-file .name) (was-file .created) valid least
-          (rw sectors most) (λ e. omega arith) (λ e. one) (was-file .weights) (was-file .both))
+          fields-file (viewOf p c) f (tableAt p c f) (nameOf (tableAt p b f)) (createdOf (tableAt p b f)) date long (attributeOf (tableAt p b f)) fields
+          (was-file .name) (was-file .created) valid least (rw sectors most) (λ e. omega arith) (λ e. one) (was-file .weights) (was-file .both))
 
 grown-lengthened : (p : Places) (b : List ℕ) (f : ℕ) (counts : List ℕ) → Lawful p b → Parent (viewOf p b) f
     → Ready p f (record { books = b; cursor = cursorOf p b f }) (inOrder counts)

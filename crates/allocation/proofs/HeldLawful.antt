@@ -21,7 +21,7 @@ use Rattle.tables.specs.Dates.{Date}
 use Rattle.tables.specs.Names.{Name}
 use Rattle.tables.specs.Places.{placesOf}
 use Rattle.tables.specs.Indexes.{parentOf, nameOf, createdOf, changedOf, lengthOf, attributeOf, slotsOf, startOf, countOf, Used, sectorsOf, fileOf}
-use Rattle.tables.specs.Views.{View, viewOf, Parent, Child, walk, next, onlyIf, tally, Under}
+use Rattle.tables.specs.Views.{View, viewOf, Parent, Child, walk, next, onlyIf, tally}
 use Rattle.tables.specs.Rules.R1.{R1}
 use Rattle.tables.specs.Rules.R4.{Own}
 use Rattle.tables.specs.Rules.R5.{R5}
@@ -29,19 +29,18 @@ use Rattle.tables.specs.Rules.R6.{R6, Run}
 use Rattle.tables.specs.Rules.R8.{fileSectors, fileType, OneType, variableBit, directoryBit, systemBit, File, FileLaw, R8}
 use Rattle.tables.specs.Lawful.{Lawful}
 use Rattle.tables.specs.Books.{Good}
-use Rattle.tables.proofs.BlockLaws.{six}
 use Rattle.tables.proofs.ChainLaws.{walk-none}
 use Rattle.tables.proofs.ChildLaws.{chain-one}
 use Rattle.tables.proofs.CountLaws.{only-eq, only-ne}
-use Rattle.tables.proofs.IndexLaws.{slots-parent}
 use Rattle.allocation.specs.declared.growth.Cursor.{Cursor}
 use Rattle.allocation.specs.Choice.{inOrder}
 use Rattle.allocation.specs.Files.{onlyCounts}
 use Rattle.allocation.specs.Held.{Held, Ends, InType, nothing}
 use Rattle.allocation.specs.Lengthened.{sectorsIn, AllOf, Quiet}
 use Rattle.allocation.proofs.FileLaws.{order-only}
+use Rattle.allocation.proofs.SizeLaws.{run-typed}
 use Rattle.allocation.proofs.StepLaws.{Calm}
-use Rattle.allocation.proofs.ChangeLaws.{parent-file, free-file, child-file}
+use Rattle.allocation.proofs.ChangeLaws.{parent-file, free-file, child-file, parent-slots, first-under}
 
 -- ---- the nine rules
 
@@ -140,9 +139,6 @@ module _ (v : View) (f : ℕ) (few : v .indexes ≤ 4096) (r5 : R5 v) (c : Curso
   abbrev t : List ℕ
   t = v .table f
 
-  slots : slotsOf f t ≡ 10
-  slots = slots-parent f t (λ z. omega (arith, e .parent .low, e .parent .word)) (e .parent .word)
-
   -- where its chain is the parent alone, no child names it
   no-child : e .long ≡ 0 → (i : ℕ) → Child v i → parentOf (v .table i) ≢ f
   no-child z i b q =
@@ -189,31 +185,27 @@ module _ (v : View) (f : ℕ) (few : v .indexes ≤ 4096) (r5 : R5 v) (c : Curso
     | no ne ↦ elim (ℕ-discrete (e .long) 0) [
       | yes q ↦ (let here : c .table .0 ≡ f = sym (e .table) ∙ ap (λ (n : ℕ). walk (next v) f n) q ∙ walk-none (next v) f in
           rw here at (e .used 0 (omega arith)))
-      | no nq ↦ rw (walk-none (next v) f) at (e .chain .full 0 (omega arith)) 0 (omega (arith, slots))
+      | no nq ↦ rw (walk-none (next v) f) at (e .chain .full 0 (omega arith)) 0 (omega (arith, parent-slots v f (e .parent)))
     ]
   ]
 
 module _ (v : View) (f : ℕ) (h : Held v f nothing) (parent : Parent v f) (used : Used f (v .table f) 0) where
   first-slot : 0 < slotsOf f (v .table f)
-  first-slot = omega (arith, slots-parent f (v .table f) (λ z. omega (arith, parent .low, parent .word)) (parent .word))
+  first-slot = omega (arith, parent-slots v f parent)
 
   first-run : Run v (startOf f (v .table f) 0) (countOf f (v .table f) 0)
   first-run = h .r6 f (omega (arith, parent .high)) (parent .low) .used 0 first-slot used
 
-  first-under : Under v f 0 (startOf f (v .table f) 0)
-  first-under = record { low = parent .low; high = parent .high; slot = first-slot; from = omega arith; to = omega (arith, first-run .some) }
-
   -- the type of all its sectors is the file's type
   pub in-file : (t : ℕ) → InType v f t → fileType v f ≡ t
   unfolding fileType
-  in-file t all = all f 0 (startOf f (v .table f) 0) (parent-file v f parent) first-under
+  in-file t all = all f 0 (startOf f (v .table f) 0) (parent-file v f parent) (first-under v f parent first-run)
 
   pub in-one : (t : ℕ) → InType v f t → OneType v f
   in-one t all i j s e u = all i j s e u ∙ sym (in-file t all)
 
   pub file-typed : Typed (fileType v f)
-  unfolding fileType
-  file-typed = first-run .typed (startOf f (v .table f) 0) (omega (arith, first-run .some)) (omega arith)
+  file-typed = run-typed v f first-run
 
   pub some-sectors : 1 ≤ fileSectors v f
   unfolding fileSectors tally

@@ -1,24 +1,28 @@
--- The end of a file's chain and of a table's pointers, step by step as the code comes to them. Assumes nothing.
+-- The end of a file's chain and of a table's pointers: step by step as the code comes to them, and that it is the end. Assumes nothing.
 use mathlib.Core.Path.{_≡_, refl, sym, ap, _∙_}
-use mathlib.Core.Bool.{Bool, true, false, cond}
+use mathlib.Core.Logic.{_≢_, _⊎_, inl, inr, ⊎-elim}
+use mathlib.Core.Bool.{Bool, true≢false}
 use mathlib.Core.List.{List}
 use Prim.Native.Nat.{ℕ, zero, suc, _+_, _-_, _*_, _≤_, _<_}
+use native.Mathlib.Nat.{not-suc-le-zero}
 use native.Mathlib.Decide.{ℕ-discrete}
 use native.Mathlib.Omega.{arith}
 use lib.Dec.{eqb}
 use borrow.Author.Tests.{eq-eqb, ne-eqb}
 use Rattle.field.specs.Numbers.{u16At, u32At}
+use Rattle.field.proofs.Sums.{sum-out, sum-one}
 use Rattle.tables.specs.declared.places.Places.{Places}
 use Rattle.tables.specs.declared.index.Pointer.{Pointer}
 use Rattle.tables.specs.declared.kinds.Index.{Index}
-use Rattle.tables.specs.Indexes.{tableAt, wordOf, linkOf, slotsOf, baseOf, pointerAt}
-use Rattle.tables.specs.Views.{View, viewOf, Parent, walk, next}
+use Rattle.tables.specs.Indexes.{tableAt, wordOf, linkOf, slotsOf, baseOf, startOf, countOf, Used, pointerAt}
+use Rattle.tables.specs.Views.{View, viewOf, Begins, Parent, walk, next}
 use Rattle.tables.specs.Rules.R5.{R5, FileChain}
-use Rattle.tables.proofs.ChainLaws.{walk-none}
-use Rattle.tables.proofs.IndexLaws.{slots-in, base-parent, base-child}
+use Rattle.tables.specs.Rules.R6.{Shape, R6}
+use Rattle.tables.proofs.ChainLaws.{walk-none, walk-once}
+use Rattle.tables.proofs.IndexLaws.{slots-in, slots-parent, base-parent, base-child}
 use Rattle.allocation.specs.declared.growth.Cursor.{Cursor}
 use Rattle.allocation.specs.Search.{find}
-use Rattle.allocation.proofs.SearchLaws.{find-end, find-high, find-here, find-next}
+use Rattle.allocation.proofs.SearchLaws.{find-end, find-high, find-here, find-next, find-passes, find-none}
 use Rattle.allocation.specs.Last.{chainEnd, lastTable, usedPointers, lastPlace, cursorOf}
 
 -- ---- the last table of a file
@@ -97,6 +101,65 @@ module _ (v : View) (f i n : ℕ) (o : Onward v f i n) where
           ends = ap (chainEnd (next v) (n - 1)) linked ∙ sym (end-next (next v) n i some (λ e. ne (linked ∙ e))) ∙ o .ends;
         }
 
+-- ---- it is the last of the file's chain, since no chain is longer than the number of index tables
+
+among : (F : ℕ → ℕ) (m i : ℕ) → ((k : ℕ) × (k < m) × (F k ≡ i)) ⊎ ((k : ℕ) → k < m → F k ≢ i)
+among F zero i = inr (λ k l. absurd (not-suc-le-zero l))
+among F (suc m) i =
+    elim (ℕ-discrete (F m) i) [
+      | yes e ↦ inl (m, omega arith, e)
+      | no ne ↦ ⊎-elim (λ r. inl (r .0, omega (arith, r .1), r .2)) (λ h. inr (λ k l. elim (ℕ-discrete k m) [ yes q ↦ (λ e. ne (ap F (sym q) ∙ e)) | no q ↦ h k (omega arith) ])) (among F m i)
+    ]
+
+-- m different numbers below n
+different-le : (n m : ℕ) (F : ℕ → ℕ) → ((k : ℕ) → k < m → F k < n) → ((k : ℕ) → k < m → (j : ℕ) → j < k → F j ≢ F k) → m ≤ n
+different-le n m F below once =
+    let s = sum-out n m F (λ i. 1) rest below once (λ k l. zero-at (F k) (k, l, refl) (among F m (F k))) (λ i l ne. one-at i ne (among F m i)) in
+    omega (arith, sum-one m (λ k. 1) (λ k l. refl), sum-one n (λ k. 1) (λ k l. refl))
+  where
+    side : (i : ℕ) → ((k : ℕ) × (k < m) × (F k ≡ i)) ⊎ ((k : ℕ) → k < m → F k ≢ i) → ℕ
+    side i (inl r) = 0
+    side i (inr h) = 1
+
+    rest : ℕ → ℕ
+    rest i = side i (among F m i)
+
+    zero-at : (i : ℕ) → ((k : ℕ) × (k < m) × (F k ≡ i)) → (d : ((k : ℕ) × (k < m) × (F k ≡ i)) ⊎ ((k : ℕ) → k < m → F k ≢ i)) → side i d ≡ 0
+    zero-at i r (inl q) = refl
+    zero-at i r (inr h) = absurd (h (r .0) (r .1) (r .2))
+
+    one-at : (i : ℕ) → ((k : ℕ) → k < m → F k ≢ i) → (d : ((k : ℕ) × (k < m) × (F k ≡ i)) ⊎ ((k : ℕ) → k < m → F k ≢ i)) → side i d ≡ 1
+    one-at i ne (inl r) = absurd (ne (r .0) (r .1) (r .2))
+    one-at i ne (inr h) = refl
+
+module _ (v : View) (f m : ℕ) (parent : Parent v f) (ch : FileChain v f m) where
+  pub chain-begins : (k : ℕ) → k < suc m → (w : ℕ) × Begins v (walk (next v) f k) w
+  chain-begins zero l = (f, rw (walk-none (next v) f) parent)
+  chain-begins (suc k) l = (_, ch .each k (omega arith))
+
+  pub file-short : suc m ≤ v .indexes
+  file-short =
+      different-le (v .indexes) (suc m) (λ k. walk (next v) f k - 1) (λ k l. omega (arith, is k l .low, is k l .high))
+      (λ k l j lj e. walk-once (next v) f (suc m) (ch .ends) (λ k l. is k l .low) k l j lj (omega (arith, is k l .low, is j (omega arith) .low)))
+    where
+      is : (k : ℕ) (l : k < suc m) → Begins v (walk (next v) f k) (chain-begins k l .0)
+      is k l = chain-begins k l .1
+
+  -- so the last table is found
+  end-at : (d n k : ℕ) → k + d ≡ m → d ≤ n → chainEnd (next v) n (walk (next v) f k) ≡ walk (next v) f m
+  unfolding chainEnd walk
+  end-at zero n k e l =
+      let q : k ≡ m = omega arith in
+      end-here (next v) n (walk (next v) f k) (ap (λ (i : ℕ). walk (next v) f (suc i)) q ∙ ch .ends) ∙ ap (walk (next v) f) q
+  end-at (suc d) zero k e l = absurd (omega arith)
+  end-at (suc d) (suc n) k e l =
+      let b = ch .each k (omega arith) in
+      rw (ne-eqb (next v (walk (next v) f k)) 0 (λ z. omega (arith, b .low))) (end-at d n (suc k) (omega arith) (omega arith))
+
+  pub last-table : walk (next v) f m ≡ lastTable v f
+  unfolding lastTable
+  last-table = sym (end-at m (v .indexes) 0 (omega arith) (omega (arith, file-short))) ∙ ap (chainEnd (next v) (v .indexes)) (walk-none (next v) f)
+
 -- ---- a table's used pointers
 
 -- the pointer at the j-th place is unused
@@ -136,9 +199,34 @@ module _ (t : List ℕ) (n at j : ℕ) (o : Passing t n at j) where
       e ∙ o .same ∙ rw (en, ea)
 
 module _ (i : ℕ) (t : List ℕ) where
-  used-le : usedPointers i t ≤ slotsOf i t
+  pub used-le : usedPointers i t ≤ slotsOf i t
   unfolding usedPointers
   used-le = omega (arith, find-high (λ j. blankAt t (baseOf i t) j) (slotsOf i t) 0)
+
+  pub used-before : (j : ℕ) → j < usedPointers i t → Used i t j
+  unfolding usedPointers
+  used-before j l = elim (ℕ-discrete (startOf i t j + countOf i t j) 0) [
+    | yes z ↦ absurd (true≢false (sym (eq-eqb (startOf i t j + countOf i t j) 0 z) ∙ find-none (blankAt t (baseOf i t)) (slotsOf i t) 0 j l (omega arith)))
+    | no ne ↦ omega arith
+  ]
+
+  module _ (first : (j : ℕ) → suc j < slotsOf i t → Used i t (suc j) → Used i t j) where
+    used-down : (d j : ℕ) → j + d < slotsOf i t → Used i t (j + d) → Used i t j
+    used-down zero j l u = let e : j + 0 ≡ j = omega arith in rw e at u
+    used-down (suc d) j l u = let e : j + suc d ≡ suc (j + d) = omega arith in used-down d j (omega arith) (first (j + d) (omega arith) (rw e at u))
+
+    -- the first of the others is unused, so all are
+    pub used-not : (j : ℕ) → j < slotsOf i t → usedPointers i t ≤ j → Used i t j → ⊥
+    unfolding usedPointers
+    used-not j l o u =
+        let k = usedPointers i t in
+        let e : k + (j - k) ≡ j = omega arith in
+        let d : (k + (j - k) < slotsOf i t) × Used i t (k + (j - k)) = rw e (l, u) in
+        let w = used-down (j - k) k (d .0) (d .1) in
+        true≢false (sym (find-passes (blankAt t (baseOf i t)) (slotsOf i t) 0 (omega arith)) ∙ ne-eqb (startOf i t k + countOf i t k) 0 (λ z. omega arith))
+
+    pub used-some : (j : ℕ) → j < slotsOf i t → Used i t j → 1 ≤ usedPointers i t
+    used-some j l u = elim (ℕ-discrete (usedPointers i t) 0) [ yes z ↦ absurd (used-not j l (omega arith) u) | no ne ↦ omega arith ]
 
   pub base-low : 22 ≤ baseOf i t
   base-low = elim (ℕ-discrete (wordOf t) i) [ yes e ↦ omega (arith, base-parent i t e) | no ne ↦ omega (arith, base-child i t ne) ]
@@ -146,8 +234,31 @@ module _ (i : ℕ) (t : List ℕ) where
   pub place-in : baseOf i t + 6 * usedPointers i t ≤ 124
   place-in = omega (arith, used-le, slots-in i t)
 
+-- R5 and R6: a file's last table has a pointer
+module _ (v : View) (f : ℕ) (r5 : R5 v) (r6 : R6 v) (parent : Parent v f) where
+  abbrev i : ℕ
+  i = lastTable v f
+
+  pub last-shape : Shape v i (v .table i)
+  last-shape =
+      let b = rw (last-table v f (r5 .long f) parent (r5 .chain f parent)) at (chain-begins v f (r5 .long f) parent (r5 .chain f parent) (r5 .long f) (omega arith)) in
+      r6 i (omega (arith, b .1 .high)) (b .1 .low)
+
+  pub last-some : 1 ≤ usedPointers i (v .table i)
+  last-some = go (r5 .long f) (last-table v f (r5 .long f) parent (r5 .chain f parent)) (omega arith)
+    where
+      go : (k : ℕ) → walk (next v) f k ≡ i → k ≤ r5 .long f → 1 ≤ usedPointers i (v .table i)
+      go zero e l =
+          let q : f ≡ i = sym (walk-none (next v) f) ∙ e in
+          let o : 0 < slotsOf f (v .table f) = omega (arith, slots-parent f (v .table f) (λ z. omega (arith, parent .low, parent .word)) (parent .word)) in
+          used-some i (v .table i) (last-shape .first) 0 (rw q at o) (rw q at (r6 f (omega (arith, parent .high)) (parent .low) .one (parent .word)))
+      go (suc k) e l =
+          let o = r5 .one i (rw e at (r5 .chain f parent .each k (omega arith))) in
+          used-some i (v .table i) (last-shape .first) (o .0) (o .1) (o .2)
+
 -- where a file goes on is made of what was found
-pub cursor-is : (p : Places) (b : List ℕ) (f : ℕ) (i : Index) (t : List ℕ) (at : ℕ) (q : Pointer) → i .0 ≡ lastTable (viewOf p b) f → t ≡ tableAt p b (i .0) → at ≡ lastPlace (i .0) t → q ≡ pointerAt t at
+pub cursor-is : (p : Places) (b : List ℕ) (f : ℕ) (i : Index) (t : List ℕ) (at : ℕ) (q : Pointer)
+    → i .0 ≡ lastTable (viewOf p b) f → t ≡ tableAt p b (i .0) → at ≡ lastPlace (i .0) t → q ≡ pointerAt t at
     → _≡_ {A = Cursor} (record { tail = record { last = q; at = at; tables = 0 }; table = i }) (cursorOf p b f)
 unfolding cursorOf
 cursor-is p b f i t at q ei et ea eq = rw (eq, ea, et, ← ei)

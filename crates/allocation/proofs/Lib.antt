@@ -21,6 +21,9 @@ pub mod ChainedLaws
 pub mod ReadyLaws
 pub mod SizeLaws
 pub mod FileLaws
+pub mod ViewGrowth
+pub mod FreshView
+pub mod AllocationCards
 pub mod AddHeld
 pub mod HeldLawful
 pub mod CreatedLawful

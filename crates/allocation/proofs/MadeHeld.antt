@@ -30,7 +30,8 @@ use Rattle.allocation.specs.Tails.{noPointer}
 use Rattle.allocation.specs.Steps.{parentBytes, Made}
 use Rattle.allocation.specs.Held.{Shapely, Held, nothing, Ends, InType}
 use Rattle.allocation.proofs.PointerBytes.{parent-word, parent-attribute, parent-zero32, parent-zero16, parent-header}
-use Rattle.allocation.proofs.ChangeLaws.{Changed, free-file, parent-file, child-file, head-free, over-free, begins-was, file-there, parent-there, pop-R4, changed-R5, changed-R6, pointers-at, sectors-at, changed-R8, free-less, changed-R9}
+use Rattle.allocation.proofs.ChainedLaws.{head-free}
+use Rattle.allocation.proofs.ChangeLaws.{Changed, free-file, parent-file, child-file, over-free, begins-was, file-there, parent-there, pop-R4, changed-R5, changed-R6, pointers-at, sectors-at, changed-R8, free-less, changed-R9}
 
 -- books that keep the rules are held, whatever file is to grow
 pub lawful-held : (v : View) (f : ℕ) → R2 v → R3 v → R4 v → R5 v → R6 v → R7 v → R8 v → R9 v → Held v f nothing

@@ -1,8 +1,7 @@
 -- The choice of blocks sees zone entries and sectors only: on the same ground it is the same choice. Assumes nothing.
-use mathlib.Core.Path.{_≡_, refl, sym, ap, ap₂, _∙_}
-use mathlib.Core.Logic.{⊎-elim, inl, inr}
+use mathlib.Core.Path.{_≡_, sym, ap, ap₂, _∙_}
 use mathlib.Core.List.{List}
-use Prim.Native.Nat.{ℕ, suc, _+_, _-_, _*_, _≤_, _<_}
+use Prim.Native.Nat.{ℕ, _+_, _-_, _*_, _≤_, _<_}
 use native.Mathlib.Nat.{one-le-pow, div-mul-le-self}
 use native.Mathlib.Decide.{ℕ-discrete, decLt}
 use native.Mathlib.Omega.{arith}
@@ -17,17 +16,14 @@ use Rattle.tables.specs.Room.{perZone, spareIn, spareOf, lackOf, Enough}
 use Rattle.tables.specs.Rules.R1.{ceil}
 use Rattle.tables.specs.Same.{Ground}
 use Rattle.tables.specs.Views.{View, cov, onlyIf}
-use Rattle.tables.proofs.BlockLaws.{block-of, block-in, block-end}
-use Rattle.tables.proofs.SameLaws.{blocks-same, ground-R2, ground-R3}
+use Rattle.tables.proofs.BlockLaws.{block-end}
+use Rattle.tables.proofs.SameLaws.{ground-R2, ground-R3}
 use Rattle.allocation.specs.declared.choice.Found.{Found}
 use Rattle.allocation.specs.Choice.{begun, lowestBegun, lowestOpen, clear, lowestClear, begunBlock, openBlock, nextBlock, sectorOf}
-use Rattle.allocation.specs.Stock.{counted, Stocked, Proper, Behind}
-use Rattle.allocation.specs.Steps.{Choosable, Taken}
+use Rattle.allocation.specs.Stock.{counted, Stocked, Behind}
+use Rattle.allocation.specs.Steps.{Taken}
 use Rattle.allocation.proofs.SearchLaws.{find-same}
 use Rattle.allocation.proofs.NextLaws.{begun-low, begun-next, open-next}
-
-pub ground-refl : (v : View) → Ground v v
-ground-refl v = record { zones = refl; zone = λ z lo hi. refl; bit = λ s l. refl }
 
 pub ground-sym : {v v' : View} → Ground v v' → Ground v' v
 ground-sym g = record {
@@ -107,9 +103,6 @@ module _ (v v' : View) (g : Ground v v') where
   pub stocked-ground : (ts : List ℕ) → Stocked v ts → Stocked v' ts
   stocked-ground ts s = record { r2 = ground-R2 v v' g (s .r2); r3 = ground-R3 v v' g (s .r3); typed = s .typed; enough = enough-ground (counted ts) (s .enough) }
 
-  pub proper-ground : (t : ℕ) (k : Found) → Proper v t k → Proper v' t k
-  proper-ground t k p = record { typed = p .typed; low = p .low; high = rw (g .zones) (p .high); within = p .within; free = p .free }
-
   pub behind-ground : (t : ℕ) (k : Found) → Behind v t k → Behind v' t k
   behind-ground t k b = record {
     low = b .low;
@@ -118,20 +111,6 @@ module _ (v v' : View) (g : Ground v v') where
     blocks = λ j l. clear-ground t (k .zone .0) j (omega (arith, b .low)) (b .high) (omega (arith, b .number)) ∙ b .blocks j l;
     number = b .number;
   }
-
-  pub choosable-ground : (t : ℕ) (k : Found) → Choosable v t k → Choosable v' t k
-  unfolding sectorOf
-  choosable-ground t k c =
-      let p = c .proper in
-      let size = block-of t (p .typed) in
-      let i = block-in (k .number) (blockOf t) size (p .within) in
-      let same : (n : ℕ) → n < 1024 → v' .bit (firstOf (k .zone .0) + n) ≡ v .bit (firstOf (k .zone .0) + n) = λ n l. g .bit _ (omega (arith, p .low, p .high)) in
-      record {
-        proper = proper-ground t k p;
-        clear = λ j l. g .bit _ (omega (arith, p .low, p .high)) ∙ c .clear j l;
-        was = blocks-same (v .bit) (v' .bit) (firstOf (k .zone .0)) (blockOf t) size same (suc (k .free)) (c .was);
-        kept = ⊎-elim (λ e. inl (ap (λ (e : ZoneEntry). e .ztype) (g .zone (k .zone .0) (omega (arith, p .low)) (omega (arith, p .high))) ∙ e)) (λ h. inr (λ n l. same n l ∙ h n l)) (c .kept);
-      }
 
 -- the same block taken of both
 pub taken-ground : (v v' w w' : View) (t : ℕ) (k : Found) → Ground v w → Taken v v' t k → Taken w w' t k → Ground v' w'

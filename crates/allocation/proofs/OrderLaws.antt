@@ -15,15 +15,10 @@ use Rattle.tables.specs.Rules.R1.{ceil}
 use Rattle.tables.specs.Views.{View, onlyIf}
 use Rattle.tables.proofs.ChoiceLaws.{ceil-least, ceil-enough, sum-mono}
 use Rattle.tables.proofs.LackLaws.{some-blocks}
-use Rattle.allocation.specs.Choice.{inOrder, inTurn}
+use Rattle.allocation.specs.Choice.{inOrder}
 use Rattle.allocation.specs.Stock.{counted, AllTyped, Stocked}
 
 -- ---- one list after the other
-
-pub inTurn-append : {A : Type 0} (step : ℕ → A → A) (xs ys : List ℕ) (x : A) → inTurn step (xs ++ ys) x ≡ inTurn step ys (inTurn step xs x)
-unfolding inTurn
-inTurn-append step [] ys x = refl
-inTurn-append step (t ∷ xs) ys x = inTurn-append step xs ys (step t x)
 
 pub counted-append : (xs ys : List ℕ) (t : ℕ) → counted (xs ++ ys) t ≡ counted xs t + counted ys t
 unfolding counted

@@ -33,23 +33,24 @@ use Rattle.allocation.specs.Tails.{joins, longer, beside, further, push,
 use Rattle.allocation.specs.Stock.{Stocked, Proper, Behind, Plannable}
 use Rattle.allocation.specs.Scratch.{scratchPlaces, scratchOf}
 use Rattle.allocation.specs.Steps.{Choosable, Taken}
-use Rattle.allocation.proofs.TurnLaws.{turn-none, turn-step, turns-left, turns-all, order-left, order-all}
+use Rattle.allocation.proofs.TurnLaws.{turn-none, turn-step, inTurn-append, turns-left, turns-more, turns-end, order-left, orders-more, orders-end}
 use Rattle.allocation.proofs.NextLaws.{next-choosable, taken-behind, behind-start}
 use Rattle.allocation.proofs.StockLaws.{taken-stocked}
 use Rattle.allocation.proofs.NextGround.{next-ground, stocked-ground, taken-ground}
-use Rattle.allocation.proofs.OrderLaws.{stocked-prefix, inTurn-append}
+use Rattle.allocation.proofs.OrderLaws.{stocked-prefix}
 use Rattle.allocation.proofs.TakenLaws.{length-putBlock, block-taken}
 
 -- ---- a block behind the tail
 
--- it joins the last pointer, stands beside it, or in a further table
-pub push-cases : (P : Tail → Type 0) (l : Tail) (s n : ℕ) → (l .last .count + n ≤ 32767 → P (longer l n)) → (l .at + 12 ≤ 124 → P (beside l s n)) → (124 < l .at + 12 → P (further l s n)) → P (push l s n)
+-- it joins the last pointer, at whose end it begins, stands beside it, or in a further table
+pub push-cases : (P : Tail → Type 0) (l : Tail) (s n : ℕ) → (l .last .start .0 + l .last .count ≡ s → l .last .count + n ≤ 32767 → P (longer l n))
+    → (l .at + 12 ≤ 124 → P (beside l s n)) → (124 < l .at + 12 → P (further l s n)) → P (push l s n)
 unfolding push joins
 push-cases P l s n a b c =
     elim (ℕ-discrete (l .last .start .0 + l .last .count) s) [
       | yes e ↦ elim (decLt 32767 (l .last .count + n)) [
         | yes h ↦ rw (eq-eqb (l .last .start .0 + l .last .count) s e, lt-leb (l .last .count + n) 32767 h) apart
-        | no h ↦ rw (eq-eqb (l .last .start .0 + l .last .count) s e, le-leb (l .last .count + n) 32767 (omega arith)) (a (omega arith))
+        | no h ↦ rw (eq-eqb (l .last .start .0 + l .last .count) s e, le-leb (l .last .count + n) 32767 (omega arith)) (a e (omega arith))
       ]
       | no e ↦ rw (ne-eqb (l .last .start .0 + l .last .count) s e) apart
     ]
@@ -59,22 +60,22 @@ push-cases P l s n a b c =
 
 module _ (l : Tail) (s n : ℕ) where
   pub push-count : l .last .count ≤ 32767 → n ≤ 1024 → push l s n .last .count ≤ 32767
-  push-count c h = push-cases (λ r. r .last .count ≤ 32767) l s n (λ j. j) (λ j. omega arith) (λ j. omega arith)
+  push-count c h = push-cases (λ r. r .last .count ≤ 32767) l s n (λ e j. j) (λ j. omega arith) (λ j. omega arith)
 
   pub push-at : l .at ≤ 118 → push l s n .at ≤ 118
-  push-at h = push-cases (λ r. r .at ≤ 118) l s n (λ j. h) (λ j. omega arith) (λ j. omega arith)
+  push-at h = push-cases (λ r. r .at ≤ 118) l s n (λ e j. h) (λ j. omega arith) (λ j. omega arith)
 
   pub push-from : 22 ≤ l .at → 22 ≤ push l s n .at
-  push-from h = push-cases (λ r. 22 ≤ r .at) l s n (λ j. h) (λ j. omega arith) (λ j. omega arith)
+  push-from h = push-cases (λ r. 22 ≤ r .at) l s n (λ e j. h) (λ j. omega arith) (λ j. omega arith)
 
   pub push-least : l .tables ≤ push l s n .tables
-  push-least = push-cases (λ r. l .tables ≤ r .tables) l s n (λ j. omega arith) (λ j. omega arith) (λ j. omega arith)
+  push-least = push-cases (λ r. l .tables ≤ r .tables) l s n (λ e j. omega arith) (λ j. omega arith) (λ j. omega arith)
 
   pub push-most : push l s n .tables ≤ l .tables + 1
-  push-most = push-cases (λ r. r .tables ≤ l .tables + 1) l s n (λ j. omega arith) (λ j. omega arith) (λ j. omega arith)
+  push-most = push-cases (λ r. r .tables ≤ l .tables + 1) l s n (λ e j. omega arith) (λ j. omega arith) (λ j. omega arith)
 
   pub push-new : push l s n .tables ≢ l .tables → (push l s n .at ≡ 22) × (push l s n .tables ≡ l .tables + 1)
-  push-new = push-cases (λ r. r .tables ≢ l .tables → (r .at ≡ 22) × (r .tables ≡ l .tables + 1)) l s n (λ j ne. absurd (ne refl)) (λ j ne. absurd (ne refl)) (λ j ne. (refl, refl))
+  push-new = push-cases (λ r. r .tables ≢ l .tables → (r .at ≡ 22) × (r .tables ≡ l .tables + 1)) l s n (λ e j ne. absurd (ne refl)) (λ j ne. absurd (ne refl)) (λ j ne. (refl, refl))
 
 -- ---- a step of the plan
 
@@ -157,8 +158,7 @@ pub tables-prefix : (p : Places) (b : List ℕ) (l : Tail) (xs ys : List ℕ) �
 unfolding tablesFor
 tables-prefix p b l xs ys =
     let c : Plan = record { books = b; tail = l } in
-    let e : inTurn (planBlock p) (xs ++ ys) c .tail .tables ≡ inTurn (planBlock p) ys (inTurn (planBlock p) xs c) .tail .tables = ap (λ (d : Plan). d .tail .tables) (inTurn-append (planBlock p) xs ys c) in
-    omega (arith, e, tables-rise p (inTurn (planBlock p) xs c) ys)
+    omega (arith, ap (λ (d : Plan). d .tail .tables) (inTurn-append (planBlock p) xs ys c), tables-rise p (inTurn (planBlock p) xs c) ys)
 
 -- those for the first block are counted first
 pub tables-step : (p : Places) (b : List ℕ) (l : Tail) (t : ℕ) (ts : List ℕ)
@@ -334,13 +334,13 @@ module _ (p : Places) (t n : ℕ) (c : Plan) (s : List ℕ) (tail : Tail) (last 
           record {
             within = omega arith;
             long = len ∙ h .long;
-            same = rw step (sym (turn-step (planBlock p) t _ d) ∙ ap (λ (ts : List ℕ). inTurn (planBlock p) ts d) (sym (turns-left n i t l)) ∙ h .same);
+            same = rw step (turns-more (planBlock p) n i t d _ (h .same) l);
             plannable = rw step (plan-step p d t _ planning-left);
             behind = rw (step, q) (plan-behind p d t _ planning-left);
           }
 
   pub planning-end : n ≤ i → d ≡ inTurn (planBlock p) (replicate n t) c
-  planning-end l = sym (ap (λ (ts : List ℕ). inTurn (planBlock p) ts d) (turns-all n i t l) ∙ turn-none (planBlock p) d) ∙ h .same
+  planning-end l = turns-end (planBlock p) n i t d _ (h .same) l
 
 -- the six counts, i of which are planned
 pub record PlanningAll (p : Places) (counts : List ℕ) (c d : Plan) (i : ℕ) : Type 0 where
@@ -364,15 +364,16 @@ module _ (p : Places) (counts : List ℕ) (c d : Plan) (i : ℕ) (h : PlanningAl
     all-planned-more e is len = record {
       within = omega arith;
       long = len ∙ h .long;
-      same = rw is (sym (inTurn-append (planBlock p) _ _ d) ∙ ap (λ (ts : List ℕ). inTurn (planBlock p) ts d) (sym (order-left counts i six l)) ∙ h .same);
+      same = rw is (orders-more (planBlock p) counts six i d _ (h .same) l);
       plannable = rw is (plan-turn p d _ _ all-planned-left);
     }
 
   pub all-planned-end : 6 ≤ i → d ≡ inTurn (planBlock p) (inOrder counts) c
-  all-planned-end l = sym (ap (λ (ts : List ℕ). inTurn (planBlock p) ts d) (order-all counts i six l) ∙ turn-none (planBlock p) d) ∙ h .same
+  all-planned-end l = orders-end (planBlock p) counts six i d _ (h .same) l
 
 -- what is planned on the copies
-module _ (p q : Places) (s x b : List ℕ) (l : Tail) (ts : List ℕ) (h : Plannable p (record { books = b; tail = l }) ts) (long : length s ≡ 36480) (ex : x ≡ scratchOf p s b) (eq : q ≡ scratchPlaces (p .zones)) where
+module _ (p q : Places) (s x b : List ℕ) (l : Tail) (ts : List ℕ) (h : Plannable p (record { books = b; tail = l }) ts) (long : length s ≡ 36480)
+    (ex : x ≡ scratchOf p s b) (eq : q ≡ scratchPlaces (p .zones)) where
   copies-layout : Layout q (length x)
   copies-layout = rw (eq, ex, length-scratch p s b (h .layout) long) (scratch-layout (p .zones) (h .layout .least) (h .layout .most))
 

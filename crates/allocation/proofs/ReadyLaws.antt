@@ -15,7 +15,8 @@ use Rattle.tables.specs.Indexes.{wordOf, tableAt}
 use Rattle.tables.specs.Places.{Layout}
 use Rattle.tables.specs.Same.{Ground}
 use Rattle.tables.specs.Sector1.{freeOf, firstFreeOf}
-use Rattle.tables.specs.Views.{viewOf}
+use Rattle.tables.specs.Views.{viewOf, Free}
+use Rattle.tables.specs.Rules.R9.{freeOne}
 use Rattle.allocation.specs.declared.choice.Found.{Found}
 use Rattle.allocation.specs.declared.tail.Tail.{Tail}
 use Rattle.allocation.specs.declared.growth.Cursor.{Cursor}
@@ -26,12 +27,13 @@ use Rattle.allocation.specs.Growth.{Growth, pointHere, pointFurther, poi
 use Rattle.allocation.specs.Stock.{Stocked, Proper, Behind}
 use Rattle.allocation.specs.Steps.{Written, Extended}
 use Rattle.allocation.specs.Ready.{Head, Laying, Chained, Ready}
-use Rattle.allocation.proofs.TurnLaws.{turn-none, turn-step, turns-left, turns-all, order-left, order-all}
+use Rattle.allocation.proofs.TurnLaws.{turn-none, turn-step, turns-left, turns-more, turns-end, order-left, orders-more, orders-end}
 use Rattle.allocation.proofs.PlanLaws.{push-count, push-at, push-from, push-most, push-new, block-few, stock-free, stock-left, stock-behind, tables-least, tables-prefix, tables-step, tables-ground}
-use Rattle.allocation.proofs.ChainedLaws.{chained-files, written-word, chained-written, chained-free, chained-head, extended-new, chained-extended}
+use Rattle.allocation.proofs.TakenHeld.{files-R4, files-tally}
+use Rattle.allocation.proofs.ChainedLaws.{written-used, chained-written, chained-free, chained-head, extended-used, chained-extended}
 use Rattle.allocation.proofs.NextLaws.{behind-start}
 use Rattle.allocation.proofs.NextGround.{stocked-ground, behind-ground}
-use Rattle.allocation.proofs.OrderLaws.{stocked-prefix, inTurn-append}
+use Rattle.allocation.proofs.OrderLaws.{stocked-prefix}
 use Rattle.allocation.proofs.TakenLaws.{length-putBlock, block-files}
 use Rattle.allocation.proofs.StepLaws.{pointer-written, child-extended, length-putPointer, length-putChild}
 
@@ -93,10 +95,10 @@ module _ (p : Places) (f : ℕ) (b : List ℕ) (c : Cursor) (l : Tail) (ts : Lis
       record {
         layout = here-layout;
         stocked = stocked-ground (viewOf p b) (viewOf p b') (here-written .ground) ts (h .stocked);
-        chained = chained-written p b b' (c .table .0) (l .at) (l .last) here-written (h .from) (h .used) (h .chained);
+        chained = chained-written p b b' (c .table .0) (l .at) (l .last) here-written (h .from) (h .low) (h .high) (h .used) (h .chained);
         low = h .low;
         high = h .high;
-        used = λ z. h .used (sym (written-word p b b' (c .table .0) (l .at) (l .last) here-written (h .from) (h .used) (c .table .0) (h .low) (h .high)) ∙ z);
+        used = written-used p b b' (c .table .0) (l .at) (l .last) here-written (h .from) (h .low) (h .high) (h .used);
         count = h .count;
         from = h .from;
         at = h .at;
@@ -109,8 +111,11 @@ module _ (p : Places) (f : ℕ) (b : List ℕ) (c : Cursor) (l : Tail) (ts : Lis
     pub taking-head : Head p b
     taking-head = chained-head p b (h .chained) (omega (arith, tables-least p b l ts, h .enough, h .new ne .1))
 
+    first-free : Free (viewOf p b) (firstFreeOf b)
+    first-free = chained-free p b (h .chained) (λ z. omega (arith, taking-head .low))
+
     other : c .table .0 ≢ firstFreeOf b
-    other e = h .used (ap (λ (n : ℕ). wordOf (tableAt p b n)) e ∙ chained-free p b (h .chained) (λ z. omega (arith, taking-head .low)) .word)
+    other e = h .used (ap (λ (n : ℕ). wordOf (tableAt p b n)) e ∙ first-free .word)
 
     abbrev grown : List ℕ
     grown = putPointer p (putChild p b f (c .table .0)) (firstFreeOf b) (l .at) (l .last)
@@ -125,15 +130,13 @@ module _ (p : Places) (f : ℕ) (b : List ℕ) (c : Cursor) (l : Tail) (ts : Lis
 
     further-ready : Ready p f (record { books = grown; cursor = record { tail = l; table = record { 0 = firstFreeOf b } } }) ts
     further-ready =
-        let some : firstFreeOf b ≢ 0 = λ z. omega (arith, taking-head .low) in
-        let small : p .indexes < 4294967296 = omega (arith, h .layout .few) in
         record {
           layout = further-layout;
           stocked = stocked-ground (viewOf p b) (viewOf p grown) (further-extended .ground) ts (h .stocked);
-          chained = chained-extended p b grown f (c .table .0) (l .last) further-extended (h .low) (h .high) (h .used) small some (h .chained);
+          chained = chained-extended p b grown f (c .table .0) (l .last) further-extended (h .used) (h .layout .few) first-free (h .chained);
           low = taking-head .low;
           high = taking-head .high;
-          used = λ z. (let q = extended-new p b grown f (c .table .0) (l .last) further-extended (h .low) (h .high) (h .used) small some in omega (arith, taking-head .high));
+          used = extended-used p b grown f (c .table .0) (l .last) further-extended (h .used) (h .layout .few) first-free;
           count = h .count;
           from = h .from;
           at = h .at;
@@ -172,7 +175,7 @@ module _ (p : Places) (f : ℕ) (g : Growth) (t : ℕ) (ts : List ℕ) (h : Read
       record {
         layout = rw (length-putBlock p (g .books) t k) (h .layout);
         stocked = stock-left p (g .books) t ts (h .layout) (h .stocked);
-        chained = chained-files p (g .books) (putBlock p (g .books) t k) s (h .chained);
+        chained = record { r4 = files-R4 s (h .chained .r4); free = s .free ∙ h .chained .free ∙ sym (files-tally s freeOne) };
         low = h .low;
         high = h .high;
         used = λ z. h .used (sym (ap wordOf (s .table (g .cursor .table .0) (h .low) (h .high))) ∙ z);
@@ -190,8 +193,9 @@ module _ (p : Places) (f : ℕ) (g : Growth) (t : ℕ) (ts : List ℕ) (h : Read
 
   pub ready-behind : Behind (viewOf p (addBlock p f t g .books)) t k
   ready-behind =
+      let b = putBlock p (g .books) t k in
       rw (add-is p f t g, laid-is p f t k g)
-      (behind-ground (viewOf p (putBlock p (g .books) t k)) _ (taking-ground p f (putBlock p (g .books) t k) (g .cursor) l ts step-taking) t k (stock-behind p (g .books) t ts (h .layout) (h .stocked)))
+      (behind-ground (viewOf p b) _ (taking-ground p f b (g .cursor) l ts step-taking) t k (stock-behind p (g .books) t ts (h .layout) (h .stocked)))
 
   pub ready-laying : Laying p t k g
   ready-laying = record {
@@ -301,13 +305,13 @@ module _ (p : Places) (f t n : ℕ) (g m : Growth) (last : Found) (i : ℕ) (h :
           record {
             within = omega arith;
             long = len ∙ h .long;
-            same = rw step (sym (turn-step (addBlock p f) t _ m) ∙ ap (λ (ts : List ℕ). inTurn (addBlock p f) ts m) (sym (turns-left n i t l)) ∙ h .same);
+            same = rw step (turns-more (addBlock p f) n i t m _ (h .same) l);
             ready = rw step (ready-step p f m t _ adding-left);
             behind = rw (step, q) (ready-behind p f m t _ adding-left);
           }
 
   pub adding-end : n ≤ i → m ≡ inTurn (addBlock p f) (replicate n t) g
-  adding-end l = sym (ap (λ (ts : List ℕ). inTurn (addBlock p f) ts m) (turns-all n i t l) ∙ turn-none (addBlock p f) m) ∙ h .same
+  adding-end l = turns-end (addBlock p f) n i t m _ (h .same) l
 
 -- the six counts, i of which are added
 pub record AddingAll (p : Places) (f : ℕ) (counts : List ℕ) (g m : Growth) (i : ℕ) : Type 0 where
@@ -331,9 +335,9 @@ module _ (p : Places) (f : ℕ) (counts : List ℕ) (g m : Growth) (i : ℕ) (h 
     all-added-more m' is len = record {
       within = omega arith;
       long = len ∙ h .long;
-      same = rw is (sym (inTurn-append (addBlock p f) _ _ m) ∙ ap (λ (ts : List ℕ). inTurn (addBlock p f) ts m) (sym (order-left counts i six l)) ∙ h .same);
+      same = rw is (orders-more (addBlock p f) counts six i m _ (h .same) l);
       ready = rw is (ready-turn p f m _ _ all-added-left);
     }
 
   pub all-added-end : 6 ≤ i → m ≡ inTurn (addBlock p f) (inOrder counts) g
-  all-added-end l = sym (ap (λ (ts : List ℕ). inTurn (addBlock p f) ts m) (order-all counts i six l) ∙ turn-none (addBlock p f) m) ∙ h .same
+  all-added-end l = orders-end (addBlock p f) counts six i m _ (h .same) l

@@ -9,17 +9,17 @@ use Rattle.tables.specs.declared.places.Places.{Places}
 use Rattle.tables.specs.declared.kinds.Index.{Index}
 use Rattle.tables.specs.Blocks.{Typed, Block, blockOf}
 use Rattle.tables.specs.Counts.{blockBytes}
-use Rattle.tables.specs.Indexes.{tableAt, slotsOf, startOf, fileOf, sectorsOf}
+use Rattle.tables.specs.Indexes.{tableAt, startOf, countOf, fileOf, sectorsOf}
 use Rattle.tables.specs.Views.{View, viewOf, Parent, tally}
 use Rattle.tables.specs.Rules.R1.{ceil}
-use Rattle.tables.specs.Rules.R6.{R6}
+use Rattle.tables.specs.Rules.R6.{Run, R6}
 use Rattle.tables.specs.Rules.R8.{fileSectors, fileType}
 use Rattle.tables.proofs.BlockLaws.{block-of}
 use Rattle.tables.proofs.ChoiceLaws.{ceil-least}
 use Rattle.tables.proofs.CountLaws.{only-eq, only-ne}
 use Rattle.tables.proofs.CountsLaws.{bytes-at}
-use Rattle.tables.proofs.IndexLaws.{slots-parent}
 use Rattle.allocation.specs.Files.{ownSectors, blocksFor}
+use Rattle.allocation.proofs.ChangeLaws.{parent-slots}
 
 -- ---- of one table
 
@@ -59,14 +59,16 @@ module _ (p : Places) (b : List ℕ) (f : ℕ) where
 
 -- ---- what it lacks
 
--- R6: a parent has a pointer, and what is under it lies in zones of type 3-8
-pub file-typed : (v : View) (f : ℕ) → R6 v → Parent v f → Typed (fileType v f)
+-- what is under a run lies in zones of type 3-8
+pub run-typed : (v : View) (f : ℕ) → Run v (startOf f (v .table f) 0) (countOf f (v .table f) 0) → Typed (fileType v f)
 unfolding fileType
+run-typed v f run = run .typed (startOf f (v .table f) 0) (omega (arith, run .some)) (omega arith)
+
+-- R6: a parent has a pointer
+pub file-typed : (v : View) (f : ℕ) → R6 v → Parent v f → Typed (fileType v f)
 file-typed v f r parent =
     let shape = r f (omega (arith, parent .high)) (parent .low) in
-    let some : 0 < slotsOf f (v .table f) = omega (arith, slots-parent f (v .table f) (λ z. omega (arith, parent .low, parent .word)) (parent .word)) in
-    let run = shape .used 0 some (shape .one (parent .word)) in
-    run .typed (startOf f (v .table f) 0) (omega (arith, run .some)) (omega arith)
+    run-typed v f (shape .used 0 (omega (arith, parent-slots v f parent)) (shape .one (parent .word)))
 
 pub type-typed : (v : View) (f t : ℕ) → R6 v → Parent v f → t ≡ fileType v f → Typed t
 type-typed v f t r parent e = rw e (file-typed v f r parent)

@@ -108,7 +108,8 @@ kept-pointer : (p : Places) (b : List ℕ) (i at : ℕ) (q : Pointer) → at + 6
 unfolding putPointer
 kept-pointer p b i at q h =
     let b₁ = putU32 b (tablePlace p i + at) (q .start .0) in
-    kept-trans (kept-wider (kept-putU32 b (tablePlace p i + at) (q .start .0)) (omega arith) (omega arith)) (kept-wider (kept-putU16 b₁ (tablePlace p i + at + 4) (q .count)) (omega arith) (omega arith))
+    kept-trans (kept-wider (kept-putU32 b (tablePlace p i + at) (q .start .0)) (omega arith) (omega arith))
+    (kept-wider (kept-putU16 b₁ (tablePlace p i + at + 4) (q .count)) (omega arith) (omega arith))
 
 table-pointer : (p : Places) (b : List ℕ) (i at : ℕ) (q : Pointer) → at + 6 ≤ 128 → tableAt p (putPointer p b i at q) i ≡ withPointer (tableAt p b i) at q
 unfolding putPointer
@@ -183,7 +184,8 @@ module _ (p : Places) (b : List ℕ) (lay : Layout p (length b)) (head : Head p 
 
     pop : n ≡ linkOf (tableAt p b (firstFreeOf b)) → m ≡ freeOf b - 1 → Popped p b z
     pop en em = record {
-      calm = calm-trans (calm-trans (calm-status lay (kept-wider head-kept (omega arith) (omega arith))) (calm-status lay (kept-wider free-kept (omega arith) (omega arith)))) (calm-table lay (firstFreeOf b) (head .low) zeros-kept);
+      calm = calm-trans (calm-trans (calm-status lay (kept-wider head-kept (omega arith) (omega arith))) (calm-status lay (kept-wider free-kept (omega arith) (omega arith))))
+          (calm-table lay (firstFreeOf b) (head .low) zeros-kept);
       head = u32-kept 1050 zeros-kept (inl (omega arith)) ∙ u32-kept 1050 free-kept (inr (omega arith)) ∙ rw ex (u32-put-same b 1050 n (omega arith)) ∙ en;
       free = u32-kept 1036 zeros-kept (inl (omega arith)) ∙ rw ey (u32-put-same x 1036 m (omega (arith, head-kept .len))) ∙ em;
       counts = record {
@@ -322,7 +324,8 @@ module _ (p : Places) (c : List ℕ) (i : ℕ) (lay : Layout p (length c)) (lo :
       ∙ ap (λ (t : List ℕ). putU16 t 44 attribute) (table-put32 p c i 40 long (omega arith))
 
 module _ (p : Places) (b : List ℕ) (n : New) (lay : Layout p (length b)) (head : Head p b) (name : length (n .name) ≤ 24) (date : length (n .date) ≡ 6) where
-  module _ (x y z : List ℕ) (ex : x ≡ putName p (takeTable p b) (firstFreeOf b) (n .name)) (ey : y ≡ putDates p x (firstFreeOf b) (n .date)) (ez : z ≡ putSize p y (firstFreeOf b) (n .length) (n .attribute)) where
+  module _ (x y z : List ℕ) (ex : x ≡ putName p (takeTable p b) (firstFreeOf b) (n .name)) (ey : y ≡ putDates p x (firstFreeOf b) (n .date))
+      (ez : z ≡ putSize p y (firstFreeOf b) (n .length) (n .attribute)) where
     lay₀ : Layout p (length (takeTable p b))
     lay₀ = rw (taken-popped p b lay head .calm .len) lay
 
@@ -413,7 +416,8 @@ module _ (p : Places) (b : List ℕ) (s d : ℕ) (date : List ℕ) (lay : Layout
       deleted = apart-kept 1032 (inl (omega arith)) ∙ u32-kept 1032 active-kept (inr (omega arith));
       system = u16-kept 1040 date-kept (inl (omega arith)) ∙ u16-kept 1040 directory-kept (inl (omega arith)) ∙ rw ey (u16-put-same x 1040 (systemOf b + s) (omega (arith, active-kept .len)));
       directory = u16-kept 1042 date-kept (inl (omega arith)) ∙ rw ez (u16-put-same y 1042 (directoryOf b + d) (omega (arith, active-kept .len, system-kept .len)));
-      flag = u16-kept 1054 date-kept (inr (omega arith)) ∙ u16-kept 1054 directory-kept (inr (omega arith)) ∙ u16-kept 1054 system-kept (inr (omega arith)) ∙ u16-kept 1054 active-kept (inr (omega arith));
+      flag = u16-kept 1054 date-kept (inr (omega arith)) ∙ u16-kept 1054 directory-kept (inr (omega arith))
+          ∙ u16-kept 1054 system-kept (inr (omega arith)) ∙ u16-kept 1054 active-kept (inr (omega arith));
       table = λ j. table-kept p j status-kept (inr (omega arith));
     }
 

@@ -3,13 +3,13 @@
 use mathlib.Core.Path.{_≡_, refl, sym, ap, _∙_}
 use mathlib.Core.Logic.{_≢_, _⊎_, inl, inr, ⊎-elim}
 use mathlib.Core.List.{List}
-use Prim.Native.Nat.{ℕ, zero, suc, _+_, _-_, _*_, _%_, _≤_, _<_}
+use Prim.Native.Nat.{ℕ, _+_, _-_, _*_, _%_, _≤_, _<_}
 use native.Mathlib.Decide.{ℕ-discrete, decLt}
 use native.Mathlib.Omega.{arith}
 use Rattle.tables.specs.declared.zone.ZoneEntry.{ZoneEntry}
 use Rattle.tables.specs.Kinds.{zoneOf, firstOf}
 use Rattle.tables.specs.Blocks.{Block, blockOf, Whole}
-use Rattle.tables.specs.Indexes.{linkOf, startOf, countOf}
+use Rattle.tables.specs.Indexes.{linkOf, startOf}
 use Rattle.tables.specs.Views.{View, Begins, Parent, walk, next, cov, tally, overOf, pointersOver, Under}
 use Rattle.tables.specs.Same.{Same}
 use Rattle.tables.specs.Rules.R2.{R2, ZoneBits}
@@ -20,8 +20,7 @@ use Rattle.tables.specs.Rules.R6.{Run}
 use Rattle.tables.specs.Rules.R8.{fileSectors, fileType, File}
 use Rattle.tables.specs.Rules.R9.{freeOne, activeOne, deletedOne, systemOne, directoryOne, R9}
 use Rattle.tables.proofs.BlockLaws.{block-of, block-end, block-in}
-use Rattle.tables.proofs.ChainLaws.{walk-same, walk-none}
-use Rattle.tables.proofs.IndexLaws.{slots-parent}
+use Rattle.tables.proofs.ChainLaws.{walk-same}
 use Rattle.tables.proofs.PointerLaws.{cov-in, cov-before, cov-after, cov-cases, under-counts}
 use Rattle.tables.proofs.SameLaws.{same-begins, same-R4, same-R5, same-chain, same-tally, under-same}
 use Rattle.allocation.specs.declared.choice.Found.{Found}
@@ -29,6 +28,8 @@ use Rattle.allocation.specs.declared.growth.Cursor.{Cursor}
 use Rattle.allocation.specs.Choice.{sectorOf}
 use Rattle.allocation.specs.Steps.{Choosable, Taken, SameFiles}
 use Rattle.allocation.specs.Held.{Shapely, Held, Ends, InType}
+use Rattle.allocation.proofs.LastLaws.{chain-begins}
+use Rattle.allocation.proofs.ChangeLaws.{under-run, other-under}
 
 -- ---- runs
 
@@ -157,7 +158,7 @@ module _ {v v' : View} (files : SameFiles v v') where
   pub files-R5 : R5 v → R5 v'
   files-R5 r = same-R5 (grounded v v') v' same (to-R5 v' r)
 
-  files-tally : (f : ℕ → List ℕ → ℕ) → tally v' f ≡ tally v f
+  pub files-tally : (f : ℕ → List ℕ → ℕ) → tally v' f ≡ tally v f
   unfolding tally
   files-tally = same-tally (grounded v v') v' same
 
@@ -199,12 +200,8 @@ module _ {v v' : View} (files : SameFiles v v') where
     none = e .none;
   }
     where
-      member : (n : ℕ) → n ≤ e .long → (w : ℕ) × Begins v (walk (next v) f n) w
-      member zero l = (f, rw (walk-none (next v) f) (e .parent))
-      member (suc n) l = (_, e .chain .each n (omega arith))
-
       table-at : (n : ℕ) → n ≤ e .long → v' .table (walk (next v) f n) ≡ v .table (walk (next v) f n)
-      table-at n l = let h = member n l .1 in files .table _ (h .low) (h .high)
+      table-at n l = let h = chain-begins v f (e .long) (e .parent) (e .chain) n (omega arith) .1 in files .table _ (h .low) (h .high)
 
       here : v' .table (c .table .0) ≡ v .table (c .table .0)
       here = rw (e .table) at (table-at (e .long) (omega arith))
@@ -212,28 +209,17 @@ module _ {v v' : View} (files : SameFiles v v') where
 -- ---- the rules
 
 module _ {v : View} {f : ℕ} {d : ℕ → ℕ} (held : Held v f d) where
-  held-run : (i j s : ℕ) → Under v i j s → Run v (startOf i (v .table i) j) (countOf i (v .table i) j)
-  held-run i j s u = held .r6 i (omega (arith, u .high)) (u .low) .used j (u .slot) (omega (arith, u .from, u .to))
-
   -- what lies under a pointer is in use
   pub held-set : ((s : ℕ) → v .bit s < 2) → (i j s : ℕ) → Under v i j s → v .bit s ≡ 1
   held-set bits i j s u =
-      let r = held-run i j s u in
+      let r = under-run v f (held .r6) i j s u in
       omega (arith, held .r7 s (omega (arith, r .high, u .to)) (omega (arith, r .low, u .from)), bits s, under-counts v s i j u)
-
-  -- another file's parent has a first pointer
-  held-first : (p : ℕ) → Parent v p → p ≢ f → Under v p 0 (startOf p (v .table p) 0)
-  held-first p h ne =
-      let shape = held .r6 p (omega (arith, h .high)) (h .low) in
-      let slots = slots-parent p (v .table p) (λ z. omega (arith, h .low, h .word)) (h .word) in
-      let run = shape .used 0 (omega arith) (shape .one (h .word) ne) in
-      record { low = h .low; high = h .high; slot = omega arith; from = omega arith; to = omega (arith, run .some) }
 
 module _ {v v' : View} {t : ℕ} {k : Found} (can : Choosable v t k) (took : Taken v v' t k) (files : SameFiles v v') (bits : (s : ℕ) → v .bit s < 2)
     {f : ℕ} {d : ℕ → ℕ} (held : Held v f d) where
   under-type : (i j s : ℕ) → Under v i j s → v' .zone (zoneOf s) .ztype ≡ v .zone (zoneOf s) .ztype
   under-type i j s u =
-      let r = held-run held i j s u in
+      let r = under-run v f (held .r6) i j s u in
       type-kept can took s (omega (arith, r .high, u .to)) (omega (arith, r .low, u .from)) (held-set held bits i j s u)
 
   pub taken-types : (q ty : ℕ) → InType v q ty → InType v' q ty
@@ -244,7 +230,7 @@ module _ {v v' : View} {t : ℕ} {k : Found} (can : Choosable v t k) (took : Tak
   taken-type : (p : ℕ) → Parent v p → p ≢ f → fileType v' p ≡ fileType v p
   unfolding fileType
   taken-type p h ne =
-      ap (λ (x : List ℕ). v' .zone (zoneOf (startOf p x 0)) .ztype) (files .table p (h .low) (h .high)) ∙ under-type p 0 _ (held-first held p h ne)
+      ap (λ (x : List ℕ). v' .zone (zoneOf (startOf p x 0)) .ztype) (files .table p (h .low) (h .high)) ∙ under-type p 0 _ (other-under v f (held .r6) p h ne)
 
   taken-file : (p : ℕ) → Parent v p → p ≢ f → File v p (v .table p) → File v' p (v .table p)
   taken-file p h ne l = record {

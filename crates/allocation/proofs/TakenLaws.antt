@@ -15,7 +15,7 @@ use Rattle.field.proofs.BitLaws.{bit-kept}
 use Rattle.field.proofs.RunLaws.{kept-setBits, set-in, set-out}
 use Rattle.tables.specs.declared.places.Places.{Places}
 use Rattle.tables.specs.Blocks.{blockOf}
-use Rattle.tables.specs.Places.{placesOf, Layout}
+use Rattle.tables.specs.Places.{Layout}
 use Rattle.tables.specs.Sectors.{sectorAt}
 use Rattle.tables.specs.Views.{viewOf, cov}
 use Rattle.tables.specs.Zones.{zoneAt, putZone}
@@ -60,11 +60,6 @@ module _ (p : Places) (b : List ℕ) (t : ℕ) (k : Found) where
 
     pub block-sector0 : (j : ℕ) → j < 2048 → getD (putBlock p b t k) j 0 ≡ getD b j 0
     block-sector0 j l = kept-putBlock .out j (inl (omega arith))
-
-    pub block-places : placesOf (putBlock p b t k) ≡ placesOf b
-    block-places =
-        let K = kept-putBlock in
-        rw (u32-kept 130 K (inl (omega arith)), u32-kept 1024 K (inl (omega arith)), u32-kept 138 K (inl (omega arith)), u32-kept 142 K (inl (omega arith)), u32-kept 146 K (inl (omega arith)))
 
     pub block-files : SameFiles (viewOf p b) (viewOf p (putBlock p b t k))
     block-files =

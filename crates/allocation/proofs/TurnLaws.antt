@@ -1,5 +1,5 @@
 -- Steps in turn: a list's first step, a run of equal types, the types of the counts. Assumes nothing.
-use mathlib.Core.Path.{_≡_, refl, ap, _∙_}
+use mathlib.Core.Path.{_≡_, refl, sym, ap, _∙_}
 use mathlib.Core.List.{List, [], _∷_, _++_}
 use Prim.Native.Nat.{ℕ, zero, suc, _+_, _-_, _≤_, _<_}
 use native.Mathlib.Numerals.{add-one}
@@ -15,13 +15,25 @@ pub turn-step : {A : Type 0} (step : ℕ → A → A) (t : ℕ) (ts : List ℕ) 
 unfolding inTurn
 turn-step step t ts x = refl
 
+pub inTurn-append : {A : Type 0} (step : ℕ → A → A) (xs ys : List ℕ) (x : A) → inTurn step (xs ++ ys) x ≡ inTurn step ys (inTurn step xs x)
+unfolding inTurn
+inTurn-append step [] ys x = refl
+inTurn-append step (t ∷ xs) ys x = inTurn-append step xs ys (step t x)
+
 -- ---- n steps of one type, i of which are done
 
 pub turns-left : (n i t : ℕ) → i < n → replicate (n - i) t ≡ t ∷ replicate (n - (i + 1)) t
 turns-left n i t l = ap (λ (m : ℕ). replicate m t) (let e : n - i ≡ suc (n - (i + 1)) = omega arith in e)
 
-pub turns-all : (n i t : ℕ) → n ≤ i → replicate (n - i) t ≡ []
+turns-all : (n i t : ℕ) → n ≤ i → replicate (n - i) t ≡ []
 turns-all n i t l = ap (λ (m : ℕ). replicate m t) (let e : n - i ≡ 0 = omega arith in e)
+
+module _ {A : Type 0} (step : ℕ → A → A) (n i t : ℕ) (x y : A) (same : inTurn step (replicate (n - i) t) x ≡ y) where
+  pub turns-more : i < n → inTurn step (replicate (n - (i + 1)) t) (step t x) ≡ y
+  turns-more l = sym (turn-step step t (replicate (n - (i + 1)) t) x) ∙ ap (λ (ts : List ℕ). inTurn step ts x) (sym (turns-left n i t l)) ∙ same
+
+  pub turns-end : n ≤ i → x ≡ y
+  turns-end l = sym (ap (λ (ts : List ℕ). inTurn step ts x) (turns-all n i t l) ∙ turn-none step x) ∙ same
 
 -- ---- the six counts, i of which are done
 
@@ -44,5 +56,12 @@ order-end [] (suc i) l = refl
 order-end (n ∷ ns) zero l = absurd (omega arith)
 order-end (n ∷ ns) (suc i) l = order-end ns i (omega arith)
 
-pub order-all : (counts : List ℕ) (i : ℕ) → length counts ≡ 6 → 6 ≤ i → inOrder (drop i counts) ≡ []
+order-all : (counts : List ℕ) (i : ℕ) → length counts ≡ 6 → 6 ≤ i → inOrder (drop i counts) ≡ []
 order-all counts i l h = order-end counts i (omega arith)
+
+module _ {A : Type 0} (step : ℕ → A → A) (counts : List ℕ) (six : length counts ≡ 6) (i : ℕ) (x y : A) (same : inTurn step (inOrder (drop i counts)) x ≡ y) where
+  pub orders-more : i < 6 → inTurn step (inOrder (drop (i + 1) counts)) (inTurn step (replicate (getD counts i 0) (8 - i)) x) ≡ y
+  orders-more l = sym (inTurn-append step (replicate (getD counts i 0) (8 - i)) _ x) ∙ ap (λ (ts : List ℕ). inTurn step ts x) (sym (order-left counts i six l)) ∙ same
+
+  pub orders-end : 6 ≤ i → x ≡ y
+  orders-end l = sym (ap (λ (ts : List ℕ). inTurn step ts x) (order-all counts i six l) ∙ turn-none step x) ∙ same

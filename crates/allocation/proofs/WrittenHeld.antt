@@ -16,7 +16,6 @@ use Rattle.tables.specs.Indexes.{wordOf, parentOf, minus, slotsOf, baseOf, star
 use Rattle.tables.specs.Views.{View, Begins, Parent, Child, walk, next, cov, overOf, Under}
 use Rattle.tables.specs.Rules.R5.{FileChain, Stands, R5}
 use Rattle.tables.specs.Rules.R6.{Run}
-use Rattle.tables.specs.Rules.R9.{freeOne, activeOne, deletedOne, systemOne, directoryOne}
 use Rattle.tables.proofs.ChildLaws.{chain-one}
 use Rattle.tables.proofs.IndexLaws.{slots-in, slots-parent, slots-child, base-parent, base-child}
 use Rattle.tables.proofs.PointerLaws.{cov-cases, cov-in, cov-none, cov-join}
@@ -26,7 +25,7 @@ use Rattle.allocation.specs.declared.growth.Cursor.{Cursor}
 use Rattle.allocation.specs.Steps.{Written}
 use Rattle.allocation.specs.Held.{Shapely, Held, Ends, InType}
 use Rattle.allocation.proofs.PointerBytes.{word-kept, parent-kept, slots-kept, base-kept, file-kept, start-kept, count-kept, kept-pointer, pointer-start, pointer-count, pointer-read}
-use Rattle.allocation.proofs.ChangeLaws.{Changed, Longer, Stays, stays-same, member-begins, member-file, member-word, ground-zone, ground-run, walk-stays, chain-stays, stay-R4, changed-R5, changed-R6, pointers-at, sectors-at, under-zone, changed-types, changed-R8, ones-same, changed-R9}
+use Rattle.allocation.proofs.ChangeLaws.{Changed, Longer, Stays, stays-same, member-begins, member-file, member-word, ground-zone, ground-run, walk-stays, chain-stays, stay-R4, changed-R5, changed-R6, pointers-at, sectors-at, under-zone, changed-types, changed-R8, stay-R9}
 
 -- the pointers of a table begin behind what a child has before them
 pub base-low : (i : ℕ) (t : List ℕ) → 22 ≤ baseOf i t
@@ -201,10 +200,7 @@ module _ (v v' : View) (f at : ℕ) (q : Pointer) (c : Cursor) (w : Written v v'
       r7 = λ s l lo. (let l' : s < 1024 * (v .zones - 1) = rw (w .ground .zones) at l in
           omega (arith, pointers-at v v' f i change s, new-over s, less s, h .r7 s l' lo, w .ground .bit s (omega arith)));
       r8 = changed-R8 v v' f i change (h .r6) (h .r8);
-      r9 = changed-R9 v v' f i change (activeOne i t) (deletedOne i t) (freeOne i t) (systemOne i t) (directoryOne i t) (activeOne i t) (deletedOne i t) (freeOne i t) (systemOne i t) (directoryOne i t)
-          (record { active = refl; deleted = refl; free = refl; system = refl; directory = refl })
-          (ones-same i t t' (word-kept i kept behind) (λ g. u16-kept 44 kept (inl (omega (arith, base-parent i t g)))))
-          (omega (arith, w .counts .active)) (omega (arith, w .counts .deleted)) (omega (arith, w .free)) (omega (arith, w .counts .system)) (omega (arith, w .counts .directory)) (w .counts .flag) (h .r9);
+      r9 = stay-R9 v v' f i change (word-kept i kept behind) (λ g. u16-kept 44 kept (inl (omega (arith, base-parent i t g)))) (w .counts) (w .free) (h .r9);
     };
     ends = record {
       parent = parent;

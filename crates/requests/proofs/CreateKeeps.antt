@@ -53,11 +53,11 @@ pub creates-keeps : (b : List ℕ) (P : Type 0) (counts : List ℕ) (n : New) (r
     → (P → NewLawful n counts × (length counts ≡ 6)) → Creates b P counts n r b' → Good b p → Good b' p
 creates-keeps b P counts n r b' p new h g =
     done-keeps (numberOf r) (created (placesOf b) b n counts) b b' p (h .books) (λ z.
-      (let q = rw z at (h .number) in
-      let a = new (argument-allowed b P 0 (gate-front (argumentTests b P) _ q) refl) in
-      let here : Good b (placesOf b) = rw (g .places) at g in
-      let provided = room-provides b (placesOf b) noPointer counts 0 here (a .1) (gate-rest (argumentTests b P) _ q) refl in
-      rw (g .places) (made-keeps b (placesOf b) n counts here provided (a .0)))) g
+    (let q = rw z at (h .number) in
+    let a = new (argument-allowed b P 0 (gate-front (argumentTests b P) _ q) refl) in
+    let here : Good b (placesOf b) = rw (g .places) at g in
+    let provided = room-provides b (placesOf b) noPointer counts 0 here (a .1) (gate-rest (argumentTests b P) _ q) refl in
+    rw (g .places) (made-keeps b (placesOf b) n counts here provided (a .0)))) g
 
 -- the weights of its attribute: not deleted, variable size as is said, one kind at most
 new-lawful : (name : List ℕ) (kind : ℕ) (date : List ℕ) (variable long : ℕ) (counts : List ℕ) → NewFile name kind date → variable ≤ 1 → long < 2147483648
@@ -91,10 +91,9 @@ fixed-lawful name (Is n) Bad kind date a = absurd (a .types')
 fixed-lawful name (Is n) (Types w) kind date a =
     let u = a .types' in
     let c : Countable w n = record { weights = u .fours; some = u .some; six = u .six; low = a .size' .0; high = a .size' .1 } in
-    let most : n ≤ 1024 * sectorsIn (inOrder (countsOf w n)) = omega (arith, counts-enough w n c, supplied-sectors (countsOf w n)) in
-    (
+    let most : n ≤ 1024 * sectorsIn (inOrder (countsOf w n)) = omega (arith, counts-enough w n c, supplied-sectors (countsOf w n)) in (
       new-lawful name kind date 0 n (countsOf w n) (a .file) (omega arith) (omega (arith, c .high)) most (λ z. c .low) (λ z. absurd (omega arith))
-      (sectors-some (inOrder (countsOf w n)) (omega arith)),
+          (sectors-some (inOrder (countsOf w n)) (omega arith)),
       counts-six w n,
     )
 
@@ -109,10 +108,9 @@ variable-lawful : (name : List ℕ) (cell : Amount) (kind : ℕ) (date : List �
     → NewLawful (record { name = name; date = date; length = 0; attribute = attributeFor 1 kind }) (onlyCounts (cellType cell) 1) × (length (onlyCounts (cellType cell) 1) ≡ 6)
 variable-lawful name cell kind date a =
     let t = cellType cell in
-    let typed = a .cell' in
-    (
+    let typed = a .cell' in (
       new-lawful name kind date 1 0 (onlyCounts t 1) (a .file) (omega arith) (omega arith) (omega arith) (λ z. absurd (omega arith)) (λ z. (t, all-only 1 t typed))
-      (rw (order-only t 1 typed) (omega arith)),
+          (rw (order-only t 1 typed) (omega arith)),
       length-only t 1,
     )
 
@@ -159,6 +157,6 @@ grow-allowed b id long date h = argument-allowed b (GrowAllowed long date) 0 (ga
 pub grew-keeps : (b : List ℕ) (id : ℕ) (long : Amount) (date : List ℕ) (r : ℕ) (b' : List ℕ) (p : Places) → Grew b id long date r b' → Good b p → Good b' p
 grew-keeps b id long date r b' p h g =
     done-keeps r (grownTo b id (sizeOf long) date) b b' p (h .books) (λ z.
-      (let q : Gate (growTests b id long date) 0 = rw z at (h .number) in
-      let a = grow-allowed b id long date q in
-      rw (g .places) (grown-keeps b id (sizeOf long) date (rw (g .places) at g) (grow-file b id long date 0 q refl (sizeOf long) refl) (a .date') (size-few long (a .long'))))) g
+    (let q : Gate (growTests b id long date) 0 = rw z at (h .number) in
+    let a = grow-allowed b id long date q in
+    rw (g .places) (grown-keeps b id (sizeOf long) date (rw (g .places) at g) (grow-file b id long date 0 q refl (sizeOf long) refl) (a .date') (size-few long (a .long'))))) g

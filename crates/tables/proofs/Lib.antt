@@ -26,7 +26,7 @@ pub mod SurveyLaws
 pub mod PieceLaws
 pub mod MarkLaws
 pub mod CountsLaws
-pub mod CountCards
+pub mod FlagCards
 pub mod LackLaws
 pub mod ChoiceLaws
 pub mod RoomLaws

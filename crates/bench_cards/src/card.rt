@@ -1,0 +1,109 @@
+// Requests on a card of five sectors of books, passed by value: each step's books stay for comparison.
+use crate::line::say;
+use crate::line::say_file;
+use crate::line::say_number;
+use requests::amount::Amount;
+use requests::amount::amount_of;
+use requests::create::Created;
+use requests::create_fixed::create_fixed;
+use requests::create_variable::create_variable;
+use requests::format::format;
+use requests::grow::grow;
+use requests::mount::mount;
+use requests::space::Space;
+use requests::space::space_of;
+use tables::counts::chosen_types;
+
+// Formats the books for Z zones and N index tables.
+pub fn format_books(b: &mut [u8], zones: u32, indexes: u32) {
+    let n = format(
+        b,
+        Amount::Is(zones),
+        Amount::Is(indexes),
+        b"BENCH",
+        b"CARD",
+        1,
+        b"OWNER",
+        b"CODE",
+        b"\x07\xea\x01\x02\x03\x04",
+    );
+    say_number(b"format Z=", zones);
+    say_number(b" N=", indexes);
+    say_number(b" number=", n);
+    say(b"\n");
+}
+
+pub fn mount_books(b: &mut [u8]) {
+    say_number(b"mount number=", mount(b));
+    say(b"\n");
+}
+
+pub fn formatted(zones: u32, indexes: u32) -> [u8; 5120] {
+    let mut card = [0u8; 5120];
+    format_books(&mut card, zones, indexes);
+    card
+}
+
+pub fn mounted(card: [u8; 5120]) -> [u8; 5120] {
+    let mut after = card;
+    mount_books(&mut after);
+    after
+}
+
+// This paper's number of an answer.
+fn number_of(made: Created) -> u32 {
+    match made {
+        Created::Done(_id) => 0,
+        Created::Refused(n) => n,
+    }
+}
+
+// The new file's id, 0 beside a refusal.
+fn id_of(made: Created) -> u32 {
+    match made {
+        Created::Done(id) => id.0,
+        Created::Refused(_n) => 0,
+    }
+}
+
+// Create fixed on `after`, which holds what `before` holds.
+pub fn create_on(step: &[u8], before: &[u8], after: &mut [u8], name: &[u8], size: i32, flag: i32) {
+    let date = b"\x07\xea\x01\x02\x03\x05";
+    let made = create_fixed(after, name, amount_of(size), chosen_types(flag), 0, date);
+    say_file(step, number_of(made), id_of(made), before, after);
+}
+
+pub fn create(step: &[u8], card: [u8; 5120], name: &[u8], size: i32, flag: i32) -> [u8; 5120] {
+    let mut after = card;
+    create_on(step, &card, &mut after, name, size, flag);
+    after
+}
+
+pub fn create_cell(step: &[u8], card: [u8; 5120], name: &[u8], cell: i32) -> [u8; 5120] {
+    let mut after = card;
+    let date = b"\x07\xea\x01\x02\x03\x05";
+    let made = create_variable(&mut after, name, amount_of(cell), 0, date);
+    say_file(step, number_of(made), id_of(made), &card, &after);
+    after
+}
+
+pub fn grow_to(step: &[u8], card: [u8; 5120], id: u32, long: i32) -> [u8; 5120] {
+    let mut after = card;
+    let date = b"\x07\xea\x01\x02\x03\x06";
+    let number = grow(&mut after, id, amount_of(long), date);
+    say_file(step, number, id, &card, &after);
+    after
+}
+
+// Space: refused if the books break a rule.
+pub fn space(b: &[u8]) {
+    let s = space_of(b);
+    match s {
+        Space::Is(sectors, used) => {
+            say_number(b"space sectors=", sectors);
+            say_number(b" used=", used);
+        }
+        Space::Refused(n) => say_number(b"space number=", n),
+    }
+    say(b"\n");
+}

@@ -1,0 +1,198 @@
+// The bench cards on books in memory, a line for each step.
+mod card;
+mod line;
+
+use crate::card::create;
+use crate::card::create_cell;
+use crate::card::create_on;
+use crate::card::format_books;
+use crate::card::formatted;
+use crate::card::grow_to;
+use crate::card::mount_books;
+use crate::card::mounted;
+use crate::card::space;
+use field::parts::fill;
+
+// Counts per zone type, on fresh cards with open zones enough; P3 follows P2 on its card.
+fn counts_cards() {
+    // 1,773 sectors, default: H1 G2 F3 E2 D3 C1
+    let six = mounted(formatted(8, 8));
+    create(b"P1", six, b"one", 1815552, -1);
+    // 1,240 KiB, H, F, E: 1, 3, 2
+    let three = mounted(formatted(5, 8));
+    let two = create(b"P2", three, b"two", 1269760, 176);
+    // size 1, H and E: 0, 1
+    create(b"P3", two, b"three", 1, 144);
+    // 1,048,577 bytes, H: 2
+    let pair = mounted(formatted(4, 8));
+    create(b"P4", pair, b"four", 1048577, 128);
+}
+
+// Z=4, fresh: P5 to P8 in order, then names of 24 and of 25 bytes.
+fn four_zones() {
+    let fresh = mounted(formatted(4, 8));
+    // 5,000 bytes default
+    let five = create(b"P5", fresh, b"five", 5000, 0);
+    // then 1 byte
+    let six = create(b"P6", five, b"six", 1, 0);
+    // then 20,480 bytes default: no open zone for type E
+    let seven = create(b"P7", six, b"seven", 20480, 0);
+    // with C alone
+    let eight = create(b"P8", seven, b"eight", 20480, 4);
+    let taken = create(b"name of 24", eight, b"ABCDEFGHIJKLMNOPQRSTUVWX", 1, 0);
+    let refused = create(b"name of 25", taken, b"ABCDEFGHIJKLMNOPQRSTUVWXY", 1, 0);
+    space(&refused);
+}
+
+// Z=3, fresh: 5,000 bytes default, then with C.
+fn three_zones() {
+    let fresh = mounted(formatted(3, 8));
+    let refused = create(b"P9 default", fresh, b"nine", 5000, 0);
+    create(b"P9 C", refused, b"nine", 5000, 4);
+}
+
+// Z=36, 33,554,432 bytes, H: a pointer has at most 32,767 sectors.
+fn many_zones() {
+    let mut books = [0u8; 9216];
+    format_books(&mut books, 36, 8);
+    mount_books(&mut books);
+    let before = books;
+    create_on(b"P10", &before, &mut books, b"ten", 33554432, 128);
+}
+
+// A refused create leaves every byte.
+fn refusals() {
+    let fresh = formatted(3, 1);
+    let flat = create(b"not mounted", fresh, b"file", 1, 0);
+    let ready = mounted(flat);
+    let empty = create(b"no name", ready, b"", 1, 0);
+    let star = create(b"name with *", empty, b"fi*e", 1, 0);
+    let none = create(b"size 0", star, b"file", 0, 0);
+    let odd = create(b"flag 2", none, b"file", 1, 2);
+    let cell = create_cell(b"cell 1000", odd, b"file", 1000);
+    // the one index table is taken
+    let one = create(b"first file", cell, b"file", 1, 4);
+    create(b"second file", one, b"file", 1, 4);
+}
+
+// A wholly free D zone is given to type H.
+fn free_zone_given() {
+    let mut card = formatted(3, 8);
+    // zone 2: type 4, 256 free blocks
+    card[2055] = 4;
+    card[2056] = 1;
+    let ready = mounted(card);
+    let given = create(b"D zone to H", ready, b"file", 1, 128);
+    space(&given);
+}
+
+// Makes n bytes zero from `at` on, as far as the books have them.
+fn clear(b: &mut [u8], at: usize, n: usize) {
+    if n > b.len() {
+        return;
+    }
+    if at > b.len() - n {
+        return;
+    }
+    fill(b, at, n, 0);
+}
+
+// Takes file 1 off the card by hand: three sectors from 1024 on, index table 1, next free table 3.
+fn without_first(card: [u8; 5120]) -> [u8; 5120] {
+    let mut after = card;
+    // one active file, seven free index tables, the first free one is 1
+    after[1031] = 1;
+    after[1039] = 7;
+    after[1053] = 1;
+    // zone 2: 1,023 free blocks, and of the first eight sectors only 1027 in use
+    after[2057] = 255;
+    after[3200] = 16;
+    clear(&mut after, 4096, 124);
+    after[4223] = 3;
+    after
+}
+
+// Freed blocks are used again, the lowest first.
+fn freed_used_again() {
+    let fresh = mounted(formatted(3, 8));
+    let one = create(b"three blocks", fresh, b"one", 3000, 4);
+    let two = create(b"one block", one, b"two", 1000, 4);
+    let freed = without_first(two);
+    space(&freed);
+    let again = create(b"five blocks", freed, b"again", 5000, 4);
+    space(&again);
+}
+
+fn put_byte(b: &mut [u8], at: usize, v: u8) {
+    if at < b.len() {
+        b[at] = v;
+    }
+}
+
+// Pointer i of file 1 by hand: sector 1025 + 2i alone.
+fn put_single(b: &mut [u8], i: usize) {
+    if i >= 10 {
+        return;
+    }
+    put_byte(b, 4162 + 6 * i, 4);
+    put_byte(b, 4163 + 6 * i, (1 + 2 * i) as u8);
+    put_byte(b, 4165 + 6 * i, 1);
+}
+
+fn put_singles(b: &mut [u8]) {
+    let mut i: usize = 0;
+    while i < 10 {
+        put_single(b, i);
+        i += 1;
+    }
+}
+
+// The ten sectors of file 1, moved by hand to every second one: 1025, 1027, .., 1043.
+fn apart(card: [u8; 5120]) -> [u8; 5120] {
+    let mut after = card;
+    after[3200] = 0x55;
+    after[3201] = 0x55;
+    after[3202] = 0x50;
+    put_singles(&mut after);
+    after
+}
+
+// Clear blocks between set ones are given first; the parent holds ten pointers, a child the next.
+fn eleven_pointers() {
+    let fresh = mounted(formatted(3, 8));
+    let one = create(b"ten blocks", fresh, b"one", 10240, 4);
+    let moved = apart(one);
+    space(&moved);
+    let two = create(b"twelve blocks", moved, b"two", 12288, 4);
+    space(&two);
+}
+
+// Grow of a variable file with blocks of type D.
+fn growing() {
+    let fresh = mounted(formatted(3, 8));
+    let made = create_cell(b"cell 4096", fresh, b"grows", 4096);
+    let fits = grow_to(b"grow to 4096", made, 1, 4096);
+    let same = grow_to(b"grow to 4096 again", fits, 1, 4096);
+    let less = grow_to(b"grow to 100", same, 1, 100);
+    let block = grow_to(b"grow to 4097", less, 1, 4097);
+    let behind = create(b"D", block, b"behind", 4096, 8);
+    let more = grow_to(b"grow to 8193", behind, 1, 8193);
+    let below = grow_to(b"grow to -1", more, 1, -1);
+    let fixed = grow_to(b"grow of a fixed file", below, 2, 5000);
+    let unknown = grow_to(b"grow of no file", fixed, 3, 5000);
+    // the zone has 256 blocks, one of them the other file's
+    let full = grow_to(b"grow to 1044481", unknown, 1, 1044481);
+    space(&full);
+}
+
+fn main() {
+    counts_cards();
+    four_zones();
+    three_zones();
+    many_zones();
+    refusals();
+    free_zone_given();
+    freed_used_again();
+    eleven_pointers();
+    growing();
+}

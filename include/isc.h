@@ -55,6 +55,17 @@ uint32_t isc_create_variable(uint8_t *books, size_t books_len,
 uint32_t isc_grow(uint8_t *books, size_t books_len, uint32_t id, int32_t length,
                   const uint8_t *date, size_t date_len);
 
+/* Mark an active file as deleted, or make such a file active again: 1 to 5, 7 to 9, and 10 if a file to be
+   deleted is write-protected. Its pointers and data stay. */
+uint32_t isc_temporary_delete(uint8_t *books, size_t books_len, uint32_t id,
+                              const uint8_t *date, size_t date_len);
+uint32_t isc_recover(uint8_t *books, size_t books_len, uint32_t id,
+                     const uint8_t *date, size_t date_len);
+
+/* Makes an active file's protection 0, 4 (write), 8 (read) or 12 (both): 1 to 5, 7 to 9. */
+uint32_t isc_set_protection(uint8_t *books, size_t books_len, uint32_t id, uint32_t protection,
+                            const uint8_t *date, size_t date_len);
+
 /* The volume's sectors, and how many of them are in use: 1 to 5. */
 uint32_t isc_space(const uint8_t *books, size_t books_len, uint32_t *sectors, uint32_t *used);
 

@@ -1,4 +1,4 @@
--- Where a file's pointers end: "Grow continues" behind the last one.
+-- Where a file's pointers end in the books: its last table, and the last used pointer there. Grow goes on behind it.
 use mathlib.Core.Bool.{cond}
 use mathlib.Core.List.{List}
 use Prim.Native.Nat.{ℕ, zero, suc, _+_, _-_, _*_}

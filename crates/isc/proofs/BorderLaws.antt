@@ -25,7 +25,9 @@ use Rattle.requests.specs.Report.{reportOf, Reported}
 use Rattle.requests.proofs.ReportLaws.{text-length, text-part}
 use Rattle.tables.specs.declared.counts.Chosen.{Chosen}
 use Rattle.tables.specs.Counts.{chosenTypes}
-use Rattle.requests.specs.Create.{numberOf as createdNumber, idValue, CreatedFixed, CreatedVariable}
+use Rattle.allocation.specs.NewTables.{New}
+use Rattle.requests.specs.Create.{numberOf as createdNumber, idValue, Creates, CreatedFixed, CreatedVariable}
+use Rattle.requests.proofs.CreateLaws.{creates-one}
 use Rattle.requests.specs.Grow.{Grew}
 use Rattle.isc.specs.Border.{CreateOut, SpaceOut, Lines, ReportOut}
 
@@ -74,10 +76,11 @@ grow-border b b' date id x long r e h = rw (← e) h
 
 -- ---- one result
 
-pub create-one : (P Q : Created → Type 0) (r r' id id' : ℕ) → ((a c : Created) → P a → Q c → a ≡ c) → CreateOut P r id → CreateOut Q r' id' → (r ≡ r') × (id ≡ id')
-create-one P Q r r' id id' one h k =
-    let e : h .answer ≡ k .answer = one (h .answer) (k .answer) (h .holds) (k .holds) in
-    (h .number ∙ ap createdNumber e ∙ sym (k .number), h .value ∙ ap idValue e ∙ sym (k .value))
+pub create-one : (b : List ℕ) (P : Type 0) (counts : List ℕ) (new : New) (x y : List ℕ) (r r' id id' : ℕ)
+    → CreateOut (λ answer. Creates b P counts new answer x) r id → CreateOut (λ answer. Creates b P counts new answer y) r' id' → (r ≡ r') × (id ≡ id') × (x ≡ y)
+create-one b P counts new x y r r' id id' h k =
+    let e = creates-one b P counts new (h .answer) (k .answer) x y (h .holds) (k .holds) in
+    (h .number ∙ ap createdNumber (e .0) ∙ sym (k .number), h .value ∙ ap idValue (e .0) ∙ sym (k .value), e .1)
 
 pub space-one : (b : List ℕ) (r r' s s' u u' : ℕ) → SpaceOut b r s u → SpaceOut b r' s' u' → (r ≡ r') × (s ≡ s') × (u ≡ u')
 space-one b r r' s s' u u' h k =

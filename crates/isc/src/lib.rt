@@ -8,9 +8,12 @@ use requests::dismount::dismount;
 use requests::format::format;
 use requests::grow::grow;
 use requests::mount::mount;
+use requests::recover::recover;
 use requests::report::report;
+use requests::set_protection::set_protection;
 use requests::space::Space;
 use requests::space::space_of;
+use requests::temporary_delete::temporary_delete;
 use tables::counts::chosen_types;
 ghost use mathlib.Core.Path.{_≡_};
 ghost use Rattle.tables.specs.Counts.{chosenTypes};
@@ -19,6 +22,7 @@ ghost use Rattle.requests.specs.Create.{CreatedFixed, CreatedVariable};
 ghost use Rattle.requests.specs.Format.{Formatted};
 ghost use Rattle.requests.specs.Grow.{Grew};
 ghost use Rattle.requests.specs.Mount.{Mounted, Dismounted};
+ghost use Rattle.requests.specs.State.{Removed, Recovered, Protected};
 ghost use Rattle.isc.specs.Border.{CreateOut, SpaceOut, ReportOut};
 
 #[no_mangle]
@@ -108,6 +112,27 @@ pub extern "C" fn isc_grow(books: &mut [u8], id: u32, length: i32, date: &[u8]) 
     ensures { λ r. ⌜ Grew (now (books .entry)) id (amountOf length) (now (date .entry)) r (now (books .exit)) ⌝ }
 {
     grow(books, id, amount_of(length), date)
+}
+
+#[no_mangle]
+pub extern "C" fn isc_temporary_delete(books: &mut [u8], id: u32, date: &[u8]) -> u32
+    ensures { λ r. ⌜ Removed (now (books .entry)) id (now (date .entry)) r (now (books .exit)) ⌝ }
+{
+    temporary_delete(books, id, date)
+}
+
+#[no_mangle]
+pub extern "C" fn isc_recover(books: &mut [u8], id: u32, date: &[u8]) -> u32
+    ensures { λ r. ⌜ Recovered (now (books .entry)) id (now (date .entry)) r (now (books .exit)) ⌝ }
+{
+    recover(books, id, date)
+}
+
+#[no_mangle]
+pub extern "C" fn isc_set_protection(books: &mut [u8], id: u32, protection: u32, date: &[u8]) -> u32
+    ensures { λ r. ⌜ Protected (now (books .entry)) id protection (now (date .entry)) r (now (books .exit)) ⌝ }
+{
+    set_protection(books, id, protection, date)
 }
 
 #[no_mangle]

@@ -9,3 +9,5 @@ pub mod CreateLaws
 pub mod GrowLaws
 pub mod FixedLaws
 pub mod CreateKeeps
+pub mod StateLaws
+pub mod StateKeeps

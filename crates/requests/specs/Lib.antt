@@ -8,3 +8,4 @@ pub mod Report
 pub mod Create
 pub mod Named
 pub mod Grow
+pub mod State

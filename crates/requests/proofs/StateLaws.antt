@@ -1,0 +1,323 @@
+-- Temporary delete, recover and set protection: what a file's attribute and sector 1's counts allow, each way out, and that each promise
+-- allows one result. Assumes nothing.
+use mathlib.Core.Path.{_≡_, refl, sym, ap, _∙_}
+use mathlib.Core.Logic.{inl, inr, _≢_}
+use mathlib.Core.Bool.{Bool, true}
+use mathlib.Core.List.{List, []}
+use Prim.Native.Nat.{ℕ, _+_, _-_, _/_, _%_, _≤_, _<_}
+use native.Mathlib.Omega.{arith}
+use lib.Dec.{eqb}
+use lib.ListN.{length}
+use Rattle.field.specs.Says.{Says}
+use Rattle.field.proofs.Sums.{sum-part, sum-le}
+use Rattle.field.proofs.Tests.{says-map}
+use Rattle.tables.specs.declared.places.Places.{Places}
+use Rattle.tables.specs.Dates.{Date}
+use Rattle.tables.specs.Indexes.{tableAt, wordOf, attributeOf}
+use Rattle.tables.specs.Places.{placesOf, Layout}
+use Rattle.tables.specs.Sector1.{activeOf, deletedOf, systemOf, directoryOf}
+use Rattle.tables.specs.Gates.{Gate}
+use Rattle.tables.specs.Books.{Good}
+use Rattle.tables.specs.Rules.R8.{directoryBit, systemBit}
+use Rattle.tables.specs.Rules.R9.{deletedBit, activeOne, deletedOne, systemOne, directoryOne}
+use Rattle.tables.specs.Views.{View, viewOf, Parent, tally}
+use Rattle.tables.proofs.CountLaws.{ones-active, ones-deleted, only-le}
+use Rattle.tables.proofs.GateLaws.{gate-one, gate-fails, gate-passes, gate-end, gate-stop, gate-skip, gate-rest}
+use Rattle.requests.specs.Create.{argumentTests}
+use Rattle.requests.specs.Named.{fileBytes, namedTests}
+use Rattle.requests.specs.State.{putAttribute, putCounts, removed, recovered, protectionOf, protected, fileRemoveTests, removeTests, Removed, removedTests, recoverTests, Recovered, ProtectAllowed, protectTests, Protected}
+use Rattle.requests.proofs.RequestLaws.{after-refused, after-one}
+use Rattle.requests.proofs.CreateLaws.{gate-head, gate-front, argument-says, argument-allowed, argument-good}
+use Rattle.requests.proofs.GrowLaws.{named-parent}
+
+-- ---- what the rules say of a file's attribute, and of sector 1's counts
+
+part : (v : View) (one : ℕ → List ℕ → ℕ) (f : ℕ) → Parent v f → one f (v .table f) ≤ tally v one
+unfolding tally
+part v one f h =
+    let e : f - 1 + 1 ≡ f = omega (arith, h .low) in
+    rw e at (sum-part (v .indexes) (f - 1) (λ k. one (k + 1) (v .table (k + 1))) (omega (arith, h .low, h .high)))
+
+few : (v : View) (one : ℕ → List ℕ → ℕ) → ((i : ℕ) (t : List ℕ) → one i t ≤ 1) → tally v one ≤ v .indexes
+unfolding tally
+few v one h = sum-le (v .indexes) (λ k. one (k + 1) (v .table (k + 1))) (λ k l. h (k + 1) (v .table (k + 1)))
+
+active-le : (i : ℕ) (t : List ℕ) → activeOne i t ≤ 1
+unfolding activeOne
+active-le i t = omega (arith, only-le (eqb (wordOf t) i) (1 - deletedBit (attributeOf t)))
+
+deleted-le : (i : ℕ) (t : List ℕ) → deletedOne i t ≤ 1
+unfolding deletedOne
+deleted-le i t = omega (arith, only-le (eqb (wordOf t) i) (deletedBit (attributeOf t)))
+
+system-le : (i : ℕ) (t : List ℕ) → systemOne i t ≤ 1
+unfolding systemOne
+system-le i t = omega (arith, only-le (eqb (activeOne i t) 1) (systemBit (attributeOf t)))
+
+directory-le : (i : ℕ) (t : List ℕ) → directoryOne i t ≤ 1
+unfolding directoryOne
+directory-le i t = omega (arith, only-le (eqb (activeOne i t) 1) (directoryBit (attributeOf t)))
+
+module _ (b : List ℕ) (p : Places) (g : Good b p) where
+  active-few : activeOf b ≤ 4096
+  active-few = omega (arith, g .lawful .r9 .active, few (viewOf p b) activeOne active-le, g .layout .few)
+
+  deleted-few : deletedOf b ≤ 4096
+  deleted-few = omega (arith, g .lawful .r9 .deleted, few (viewOf p b) deletedOne deleted-le, g .layout .few)
+
+  system-few : systemOf b ≤ 4096
+  system-few = omega (arith, g .lawful .r9 .system, few (viewOf p b) systemOne system-le, g .layout .few)
+
+  directory-few : directoryOf b ≤ 4096
+  directory-few = omega (arith, g .lawful .r9 .directory, few (viewOf p b) directoryOne directory-le, g .layout .few)
+
+  module _ (f : ℕ) (h : Parent (viewOf p b) f) where
+    weights-few : attributeOf (tableAt p b f) < 128
+    weights-few = g .lawful .r8 f (omega (arith, h .high)) (h .low) (h .word) .weights
+
+    state-table : Layout p (length b) × ((1 ≤ f) × (f ≤ p .indexes))
+    state-table = (g .layout, (h .low, h .high))
+
+    nonzero : wordOf (tableAt p b f) ≡ 0 → ⊥
+    nonzero e = omega (arith, h .low, h .word)
+
+    module _ (is : deletedBit (attributeOf (tableAt p b f)) ≡ 0) where
+      active-some : 1 ≤ activeOf b
+      active-some = omega (arith, g .lawful .r9 .active, part (viewOf p b) activeOne f h, ones-active f (tableAt p b f) nonzero (h .word) (λ e. omega arith) .active)
+
+      system-some : systemBit (attributeOf (tableAt p b f)) ≤ systemOf b
+      system-some = rw (ones-active f (tableAt p b f) nonzero (h .word) (λ e. omega arith) .system, ← g .lawful .r9 .system) at (part (viewOf p b) systemOne f h)
+
+      directory-some : directoryBit (attributeOf (tableAt p b f)) ≤ directoryOf b
+      directory-some = rw (ones-active f (tableAt p b f) nonzero (h .word) (λ e. omega arith) .directory, ← g .lawful .r9 .directory) at (part (viewOf p b) directoryOne f h)
+
+    deleted-some : deletedBit (attributeOf (tableAt p b f)) ≡ 1 → 1 ≤ deletedOf b
+    deleted-some is = omega (arith, g .lawful .r9 .deleted, part (viewOf p b) deletedOne f h, ones-deleted f (tableAt p b f) nonzero (h .word) is .deleted)
+
+-- ---- what the code reads
+
+module _ (b : List ℕ) (p : Places) (f : ℕ) (g : Good b p) (h : Parent (viewOf p b) f) where
+  pub remove-active : (n : ℕ) → deletedBit (attributeOf (tableAt p b f)) ≡ 0 → n ≡ activeOf b → 1 ≤ n
+  remove-active n is e = rw e (active-some b p g f h is)
+
+  pub remove-deleted : (n : ℕ) → n ≡ deletedOf b → n + 1 < 4294967296
+  remove-deleted n e = omega (arith, deleted-few b p g)
+
+  pub restore-active : (n : ℕ) → n ≡ activeOf b → n + 1 < 4294967296
+  restore-active n e = omega (arith, active-few b p g)
+
+  pub restore-deleted : (n : ℕ) → deletedBit (attributeOf (tableAt p b f)) ≡ 1 → n ≡ deletedOf b → 1 ≤ n
+  restore-deleted n is e = rw e (deleted-some b p g f h is)
+
+  module _ (t : List ℕ) (bytes : t ≡ tableAt p b f) (a : ℕ) (read : a ≡ attributeOf t) where
+    here : a ≡ attributeOf (tableAt p b f)
+    here = read ∙ ap attributeOf bytes
+
+    pub remove-system : (n : ℕ) → deletedBit (attributeOf (tableAt p b f)) ≡ 0 → n ≡ systemOf b → a / 64 % 2 ≤ n
+    remove-system n is e = rw (here, e) (system-some b p g f h is)
+
+    pub remove-directory : (n : ℕ) → deletedBit (attributeOf (tableAt p b f)) ≡ 0 → n ≡ directoryOf b → a / 32 % 2 ≤ n
+    remove-directory n is e = rw (here, e) (directory-some b p g f h is)
+
+    pub restore-system : (n : ℕ) → n ≡ systemOf b → n + a / 64 % 2 < 65536
+    restore-system n e = omega (arith, system-few b p g)
+
+    pub restore-directory : (n : ℕ) → n ≡ directoryOf b → n + a / 32 % 2 < 65536
+    restore-directory n e = omega (arith, directory-few b p g)
+
+    pub protect-fits : a < 128
+    protect-fits = rw here (weights-few b p g f h)
+
+    pub remove-fits : a + 1 < 65536
+    remove-fits = omega (arith, protect-fits)
+
+    pub restore-fits : deletedBit (attributeOf (tableAt p b f)) ≡ 1 → 1 ≤ a
+    restore-fits is = omega (arith, here)
+
+    pub remove-is : (active deleted system directory : ℕ) (x y date : List ℕ) → (active ≡ activeOf b) → (deleted ≡ deletedOf b) → (system ≡ systemOf b) → (directory ≡ directoryOf b)
+        → x ≡ putCounts b (active - 1) (deleted + 1) (system - a / 64 % 2) (directory - a / 32 % 2) → y ≡ putAttribute p x f (a + 1) date → y ≡ removed p b f date
+    unfolding removed
+    remove-is active deleted system directory x y date ea ed es er ex ey = rw (ey, ex, ea, ed, es, er, here)
+
+    pub restore-is : (active deleted system directory : ℕ) (x y date : List ℕ) → (active ≡ activeOf b) → (deleted ≡ deletedOf b) → (system ≡ systemOf b) → (directory ≡ directoryOf b)
+        → x ≡ putCounts b (active + 1) (deleted - 1) (system + a / 64 % 2) (directory + a / 32 % 2) → y ≡ putAttribute p x f (a - 1) date → y ≡ recovered p b f date
+    unfolding recovered
+    restore-is active deleted system directory x y date ea ed es er ex ey = rw (ey, ex, ea, ed, es, er, here)
+
+    pub protect-is : (w r : ℕ) (y date : List ℕ) → r ≡ protectionOf a w → y ≡ putAttribute p b f r date → y ≡ protected p b f w date
+    unfolding protected
+    protect-is w r y date er ey = rw (ey, er, here)
+
+-- ---- the tests of a file that is deleted: 8 as of an active one, then 9
+
+pub removed-eight : (b : List ℕ) (id : ℕ) → Gate (namedTests b id) 8 → Gate (removedTests b id) 8
+unfolding namedTests removedTests Gate
+removed-eight b id (inl (h, inl (k, e))) = absurd (omega arith)
+removed-eight b id (inl (h, inr (k, e, z))) = absurd (omega arith)
+removed-eight b id (inr h) = inr h
+
+module _ (b : List ℕ) (p : Places) (id : ℕ) (g : Good b p) (t : List ℕ) (is : t ≡ tableAt p b id) (w : ℕ) (word : w ≡ wordOf t) (same : w ≡ id) (low : 1 ≤ id) (high : id ≤ p .indexes) where
+  bytes : t ≡ fileBytes b id
+  bytes = is ∙ ap (λ (q : Places). tableAt q b id) (g .places)
+
+  parent : Parent (viewOf (placesOf b) b) id
+  parent = record { low = low; high = rw (g .places) at high; word = sym (word ∙ ap wordOf bytes) ∙ same }
+
+  pub removed-active : (a : ℕ) → a ≡ attributeOf t → a % 2 ≢ 1 → Gate (removedTests b id) 9
+  unfolding removedTests
+  removed-active a e ne = gate-passes 8 _ _ 9 parent (gate-fails 9 _ [] (omega arith) (λ z. ne (ap deletedBit (e ∙ ap attributeOf bytes) ∙ z)))
+
+  pub removed-fine : (a : ℕ) → a ≡ attributeOf t → a % 2 ≡ 1 → Gate (removedTests b id) 0
+  unfolding removedTests
+  removed-fine a e z = gate-passes 8 _ _ 0 parent (gate-passes 9 _ [] 0 (sym (ap deletedBit (e ∙ ap attributeOf bytes)) ∙ z) gate-end)
+
+-- ---- the tests of temporary delete: 8, 9 and 10
+
+module _ (b : List ℕ) (id : ℕ) where
+  pub unnamed : (n : ℕ) → Gate (namedTests b id) n → n ≢ 0 → Gate (fileRemoveTests b id) n
+  unfolding fileRemoveTests
+  unnamed n h ne = gate-stop (namedTests b id) _ n h ne
+
+  pub named-table : (p : Places) (n : ℕ) → Good b p → Gate (namedTests b id) n → n ≡ 0 → Layout p (length b) × ((1 ≤ id) × (id ≤ p .indexes))
+  named-table p n g h e = state-table b p g id (named-parent b id 0 p n g h e)
+
+  module _ (n : ℕ) (h : Gate (namedTests b id) n) (e : n ≡ 0) (p : Places) (g : Good b p) (t : List ℕ) (bytes : t ≡ tableAt p b id) (a : ℕ) (is : a ≡ attributeOf t) where
+    held : a ≡ attributeOf (fileBytes b id)
+    held = is ∙ ap attributeOf bytes ∙ ap (λ (q : Places). attributeOf (tableAt q b id)) (g .places)
+
+    pub write-protected : a / 4 % 2 ≢ 0 → Gate (fileRemoveTests b id) 10
+    unfolding fileRemoveTests
+    write-protected ne = gate-skip (namedTests b id) _ n 10 h e (gate-fails 10 _ [] (omega arith) (λ z. ne (ap (λ (x : ℕ). x / 4 % 2) held ∙ z)))
+
+    pub removable : a / 4 % 2 ≡ 0 → Gate (fileRemoveTests b id) 0
+    unfolding fileRemoveTests
+    removable z = gate-skip (namedTests b id) _ n 0 h e (gate-passes 10 _ [] 0 (sym (ap (λ (x : ℕ). x / 4 % 2) held) ∙ z) gate-end)
+
+-- ---- what a number 0 says of the file
+
+named-active : (b : List ℕ) (id : ℕ) → Gate (namedTests b id) 0 → Parent (viewOf (placesOf b) b) id × (deletedBit (attributeOf (fileBytes b id)) ≡ 0)
+unfolding namedTests
+named-active b id h = let s = gate-head 8 (Parent (viewOf (placesOf b) b) id) _ h in (s .0, gate-head 9 _ [] (s .1) .0)
+
+named-deleted : (b : List ℕ) (id : ℕ) → Gate (removedTests b id) 0 → Parent (viewOf (placesOf b) b) id × (deletedBit (attributeOf (fileBytes b id)) ≡ 1)
+unfolding removedTests
+named-deleted b id h = let s = gate-head 8 (Parent (viewOf (placesOf b) b) id) _ h in (s .0, gate-head 9 _ [] (s .1) .0)
+
+-- ---- temporary delete and recover
+
+module _ (b : List ℕ) (id : ℕ) (date : List ℕ) where
+  module _ (a : Bool) (n : ℕ) (s : Says a (Date date)) (g : Gate (argumentTests b (a ≡ true)) n) where
+    pub remove-stops : n ≢ 0 → Gate (removeTests b id date) n
+    unfolding removeTests
+    remove-stops ne = gate-stop (argumentTests b (Date date)) _ n (argument-says b a _ n s g) ne
+
+    pub remove-goes : (r : ℕ) → n ≡ 0 → Gate (fileRemoveTests b id) r → Gate (removeTests b id date) r
+    unfolding removeTests
+    remove-goes r e h = gate-skip (argumentTests b (Date date)) _ n r (argument-says b a _ n s g) e h
+
+    pub recover-stops : n ≢ 0 → Gate (recoverTests b id date) n
+    unfolding recoverTests
+    recover-stops ne = gate-stop (argumentTests b (Date date)) _ n (argument-says b a _ n s g) ne
+
+    pub recover-goes : (r : ℕ) → n ≡ 0 → Gate (removedTests b id) r → Gate (recoverTests b id date) r
+    unfolding recoverTests
+    recover-goes r e h = gate-skip (argumentTests b (Date date)) _ n r (argument-says b a _ n s g) e h
+
+  module _ (n : ℕ) (g : Gate (removeTests b id date) n) (e : n ≡ 0) where
+    pub remove-room : 2048 ≤ length b
+    unfolding removeTests
+    remove-room = omega (arith, argument-good b (Date date) 0 (gate-front (argumentTests b (Date date)) _ (rw e at g)) refl .sized .least)
+
+    pub remove-asks : (p : Places) → p ≡ placesOf b → Good b p × (Parent (viewOf p b) id × ((deletedBit (attributeOf (tableAt p b id)) ≡ 0) × (length date ≡ 6)))
+    unfolding removeTests fileRemoveTests
+    remove-asks p is =
+        let front = gate-front (argumentTests b (Date date)) _ (rw e at g) in
+        let f = named-active b id (gate-front (namedTests b id) _ (gate-rest (argumentTests b (Date date)) _ (rw e at g))) in
+        rw is (argument-good b (Date date) 0 front refl, (f .0, (f .1, argument-allowed b (Date date) 0 front refl .long)))
+
+  pub remove-refused : (n : ℕ) → Gate (removeTests b id date) n → n ≢ 0 → Removed b id date n b
+  remove-refused n g h = record { number = g; books = after-refused n _ b h }
+
+  pub remove-done : (n : ℕ) (p : Places) (b' : List ℕ) → Gate (removeTests b id date) n → n ≡ 0 → p ≡ placesOf b → b' ≡ removed p b id date → Removed b id date 0 b'
+  remove-done n p b' g e is h = record { number = rw e at g; books = h ∙ ap (λ (q : Places). removed q b id date) is }
+
+  module _ (n : ℕ) (g : Gate (recoverTests b id date) n) (e : n ≡ 0) where
+    pub recover-room : 2048 ≤ length b
+    unfolding recoverTests
+    recover-room = omega (arith, argument-good b (Date date) 0 (gate-front (argumentTests b (Date date)) _ (rw e at g)) refl .sized .least)
+
+    pub recover-asks : (p : Places) → p ≡ placesOf b → Good b p × (Parent (viewOf p b) id × ((deletedBit (attributeOf (tableAt p b id)) ≡ 1) × (length date ≡ 6)))
+    unfolding recoverTests
+    recover-asks p is =
+        let front = gate-front (argumentTests b (Date date)) _ (rw e at g) in
+        let f = named-deleted b id (gate-rest (argumentTests b (Date date)) _ (rw e at g)) in
+        rw is (argument-good b (Date date) 0 front refl, (f .0, (f .1, argument-allowed b (Date date) 0 front refl .long)))
+
+  pub recover-refused : (n : ℕ) → Gate (recoverTests b id date) n → n ≢ 0 → Recovered b id date n b
+  recover-refused n g h = record { number = g; books = after-refused n _ b h }
+
+  pub recover-done : (n : ℕ) (p : Places) (b' : List ℕ) → Gate (recoverTests b id date) n → n ≡ 0 → p ≡ placesOf b → b' ≡ recovered p b id date → Recovered b id date 0 b'
+  recover-done n p b' g e is h = record { number = rw e at g; books = h ∙ ap (λ (q : Places). recovered q b id date) is }
+
+-- ---- set protection
+
+module _ (w : ℕ) (date : List ℕ) where
+  pub protect-odd : w % 4 ≢ 0 → ProtectAllowed w date → ⊥
+  protect-odd ne a = ne (a .fours)
+
+  pub protect-beyond : 12 < w → ProtectAllowed w date → ⊥
+  protect-beyond h a = omega (arith, a .most)
+
+  pub protect-says : (r : Bool) → w % 4 ≡ 0 → w ≤ 12 → Says r (Date date) → Says r (ProtectAllowed w date)
+  protect-says r e h s = says-map r (λ d. record { fours = e; most = h; date' = d }) (λ a. a .date') s
+
+module _ (b : List ℕ) (id w : ℕ) (date : List ℕ) where
+  module _ (a : Bool) (n : ℕ) (s : Says a (ProtectAllowed w date)) (g : Gate (argumentTests b (a ≡ true)) n) where
+    pub protect-stops : n ≢ 0 → Gate (protectTests b id w date) n
+    unfolding protectTests
+    protect-stops ne = gate-stop (argumentTests b (ProtectAllowed w date)) _ n (argument-says b a _ n s g) ne
+
+    pub protect-goes : (r : ℕ) → n ≡ 0 → Gate (namedTests b id) r → Gate (protectTests b id w date) r
+    unfolding protectTests
+    protect-goes r e h = gate-skip (argumentTests b (ProtectAllowed w date)) _ n r (argument-says b a _ n s g) e h
+
+  module _ (n : ℕ) (g : Gate (protectTests b id w date) n) (e : n ≡ 0) where
+    pub protect-room : 2048 ≤ length b
+    unfolding protectTests
+    protect-room = omega (arith, argument-good b (ProtectAllowed w date) 0 (gate-front (argumentTests b (ProtectAllowed w date)) _ (rw e at g)) refl .sized .least)
+
+    pub protect-asks : (p : Places) → p ≡ placesOf b → Good b p × (Parent (viewOf p b) id × ((w ≤ 12) × (length date ≡ 6)))
+    unfolding protectTests
+    protect-asks p is =
+        let front = gate-front (argumentTests b (ProtectAllowed w date)) _ (rw e at g) in
+        let f = named-active b id (gate-rest (argumentTests b (ProtectAllowed w date)) _ (rw e at g)) in
+        let a = argument-allowed b (ProtectAllowed w date) 0 front refl in
+        rw is (argument-good b (ProtectAllowed w date) 0 front refl, (f .0, (a .most, a .date' .long)))
+
+  pub protect-refused : (n : ℕ) → Gate (protectTests b id w date) n → n ≢ 0 → Protected b id w date n b
+  protect-refused n g h = record { number = g; books = after-refused n _ b h }
+
+  pub protect-done : (n : ℕ) (p : Places) (b' : List ℕ) → Gate (protectTests b id w date) n → n ≡ 0 → p ≡ placesOf b → b' ≡ protected p b id w date → Protected b id w date 0 b'
+  protect-done n p b' g e is h = record { number = rw e at g; books = h ∙ ap (λ (q : Places). protected q b id w date) is }
+
+-- ---- the argument's books
+
+pub argued-good : (b : List ℕ) (P : Type 0) (n : ℕ) (p : Places) → Gate (argumentTests b P) n → n ≡ 0 → p ≡ placesOf b → Good b p
+argued-good b P n p g e is = rw is (argument-good b P n g e)
+
+-- ---- one result
+
+pub removed-one : (b : List ℕ) (id : ℕ) (date : List ℕ) (r s : ℕ) (x y : List ℕ) → Removed b id date r x → Removed b id date s y → (r ≡ s) × (x ≡ y)
+removed-one b id date r s x y h k =
+    let e = gate-one (removeTests b id date) r s (h .number) (k .number) in
+    (e, after-one r s x y _ b e (h .books) (k .books))
+
+pub recovered-one : (b : List ℕ) (id : ℕ) (date : List ℕ) (r s : ℕ) (x y : List ℕ) → Recovered b id date r x → Recovered b id date s y → (r ≡ s) × (x ≡ y)
+recovered-one b id date r s x y h k =
+    let e = gate-one (recoverTests b id date) r s (h .number) (k .number) in
+    (e, after-one r s x y _ b e (h .books) (k .books))
+
+pub protected-one : (b : List ℕ) (id w : ℕ) (date : List ℕ) (r s : ℕ) (x y : List ℕ) → Protected b id w date r x → Protected b id w date s y → (r ≡ s) × (x ≡ y)
+protected-one b id w date r s x y h k =
+    let e = gate-one (protectTests b id w date) r s (h .number) (k .number) in
+    (e, after-one r s x y _ b e (h .books) (k .books))

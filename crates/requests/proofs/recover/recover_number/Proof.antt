@@ -1,0 +1,16 @@
+use Rattle.requests.proofs.StateLaws.{recover-stops, argued-good, recover-goes}
+use Rattle.requests.proofs.CreateLaws.{argument-room}
+use borrow.Author.Needs.{needs}
+use Rattle.requests.proofs.recover.recover_number.Statement.{statement}
+use Rattle.requests.proofs.recover.recover_number.Tie as tie
+
+pub recover-number-spec : {M : Type 1} → statement M
+recover-number-spec =
+    tie.close
+    (tie.spec
+    (λ c κs. search needs)
+    (λ c κs. search needs)
+    (λ c. search recover-stops)
+    (λ c κs. search argument-room)
+    (λ c κs. search argued-good)
+    (λ c. search recover-goes))

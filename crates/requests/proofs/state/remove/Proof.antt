@@ -1,0 +1,27 @@
+use Rattle.requests.proofs.StateLaws.{remove-active, remove-deleted, remove-system, remove-directory, remove-fits, remove-is}
+use borrow.Author.Needs.{needs}
+use Rattle.requests.proofs.state.remove.Statement.{statement}
+use Rattle.requests.proofs.state.remove.Tie as tie
+
+put-attribute-requires : tie.Need-put-attribute-requires
+put-attribute-requires c κs = (search needs, (search needs, search needs, search remove-fits, search needs))
+
+pub remove-spec : {M : Type 1} → statement M
+remove-spec =
+    tie.close
+    (tie.spec
+    (λ c κs. search needs)
+    (λ c κs. search needs)
+    (λ c κs. search needs)
+    (λ c. search remove-active)
+    (λ c κs. search needs)
+    (λ c. search remove-deleted)
+    (λ c κs. search needs)
+    (λ c. search remove-system)
+    (λ c κs. search needs)
+    (λ c. search remove-directory)
+    (λ c κs. search needs)
+    (λ c. search needs)
+    put-attribute-requires
+    (λ c. search needs)
+    (λ c. search remove-is))

@@ -1,0 +1,16 @@
+use Rattle.requests.proofs.StateLaws.{remove-stops, argued-good, remove-goes}
+use Rattle.requests.proofs.CreateLaws.{argument-room}
+use borrow.Author.Needs.{needs}
+use Rattle.requests.proofs.temporary_delete.remove_number.Statement.{statement}
+use Rattle.requests.proofs.temporary_delete.remove_number.Tie as tie
+
+pub remove-number-spec : {M : Type 1} → statement M
+remove-number-spec =
+    tie.close
+    (tie.spec
+    (λ c κs. search needs)
+    (λ c κs. search needs)
+    (λ c. search remove-stops)
+    (λ c κs. search argument-room)
+    (λ c κs. search argued-good)
+    (λ c. search remove-goes))

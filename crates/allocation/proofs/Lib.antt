@@ -23,7 +23,6 @@ pub mod SizeLaws
 pub mod FileLaws
 pub mod ViewGrowth
 pub mod FreshView
-pub mod AllocationCards
 pub mod AddHeld
 pub mod HeldLawful
 pub mod CreatedLawful

@@ -17,7 +17,7 @@ ghost use Rattle.tables.specs.Rules.R5.{R5};
 ghost use Rattle.allocation.specs.Last.{lastTable, usedPointers, lastPlace, cursorOf};
 
 // The last table of file f.
-fn last_table(b: &[u8], p: Places, f: Index) -> Index
+pub fn last_table(b: &[u8], p: Places, f: Index) -> Index
     requires { ⌜ Layout p (length (now b)) ⌝ }
     requires { ⌜ R5 (viewOf p (now b)) ⌝ }
     requires { ⌜ Parent (viewOf p (now b)) (f .0) ⌝ }

@@ -30,7 +30,7 @@ fn own_sectors(b: &[u8], p: Places, f: Index, i: Index) -> u64
 }
 
 // The sectors of file f.
-fn file_sectors(b: &[u8], p: Places, f: Index) -> u64
+pub fn file_sectors(b: &[u8], p: Places, f: Index) -> u64
     requires { ⌜ Layout p (length (now b)) ⌝ }
     ensures { λ r. ⌜ (r ≡ fileSectors (viewOf p (now (b .entry))) (f .0)) × (r < 17592186044416) ⌝ }
 {

@@ -19,7 +19,7 @@ ghost use Rattle.allocation.specs.Ready.{Head};
 ghost use Rattle.allocation.specs.Files.{putLength};
 
 // The byte at which index table i begins.
-fn table_place(p: Places, i: Index) -> usize
+pub fn table_place(p: Places, i: Index) -> usize
     requires { ⌜ (1 ≤ i .0) × (i .0 ≤ 4096) × (p .indextable ≤ 1048576) ⌝ }
     ensures { λ r. ⌜ r ≡ tablePlace p (i .0) ⌝ }
 {

@@ -2,6 +2,8 @@
 use crate::line::say;
 use crate::line::say_file;
 use crate::line::say_number;
+use crate::line::say_state;
+use requests::actual_delete::actual_delete;
 use requests::amount::Amount;
 use requests::amount::amount_of;
 use requests::create::Created;
@@ -10,8 +12,11 @@ use requests::create_variable::create_variable;
 use requests::format::format;
 use requests::grow::grow;
 use requests::mount::mount;
+use requests::recover::recover;
+use requests::set_protection::set_protection;
 use requests::space::Space;
 use requests::space::space_of;
+use requests::temporary_delete::temporary_delete;
 use tables::counts::chosen_types;
 
 // Formats the books for Z zones and N index tables.
@@ -92,6 +97,34 @@ pub fn grow_to(step: &[u8], card: [u8; 5120], id: u32, long: i32) -> [u8; 5120] 
     let date = b"\x07\xea\x01\x02\x03\x06";
     let number = grow(&mut after, id, amount_of(long), date);
     say_file(step, number, id, &card, &after);
+    after
+}
+
+pub fn remove(step: &[u8], card: [u8; 5120], id: u32) -> [u8; 5120] {
+    let mut after = card;
+    let number = temporary_delete(&mut after, id, b"\x07\xea\x01\x02\x03\x07");
+    say_state(step, number, id, &card, &after);
+    after
+}
+
+pub fn restore(step: &[u8], card: [u8; 5120], id: u32) -> [u8; 5120] {
+    let mut after = card;
+    let number = recover(&mut after, id, b"\x07\xea\x01\x02\x03\x08");
+    say_state(step, number, id, &card, &after);
+    after
+}
+
+pub fn delete(step: &[u8], card: [u8; 5120], id: u32) -> [u8; 5120] {
+    let mut after = card;
+    let number = actual_delete(&mut after, id, b"\x07\xea\x01\x02\x03\x09");
+    say_state(step, number, id, &card, &after);
+    after
+}
+
+pub fn protect(step: &[u8], card: [u8; 5120], id: u32, weights: u32) -> [u8; 5120] {
+    let mut after = card;
+    let number = set_protection(&mut after, id, weights, b"\x07\xea\x01\x02\x03\x0a");
+    say_state(step, number, id, &card, &after);
     after
 }
 

@@ -131,3 +131,42 @@ pub fn say_file(step: &[u8], number: u32, id: u32, before: &[u8], after: &[u8]) 
     }
     say_books(before, after);
 }
+
+// The free chain from sector 1 on: N is eight at most.
+fn say_chain(b: &[u8]) {
+    say(b" chain=");
+    let mut i = word(b, 1050);
+    let mut n: u32 = 0;
+    while n < 8 {
+        i = say_link(b, i);
+        n += 1;
+    }
+}
+
+// A member of the free chain, if it is one, and the next.
+fn say_link(b: &[u8], i: u32) -> u32 {
+    if i == 0 {
+        return 0;
+    }
+    say_number(b"(", i);
+    say(b")");
+    let at = place(b.len(), i);
+    if at > b.len() {
+        return 0;
+    }
+    word(&b[at..], 124)
+}
+
+// The line of a request that marks, protects or gives back file id: sector 1's active and deleted files, the free chain, and the zones.
+pub fn say_state(step: &[u8], number: u32, id: u32, before: &[u8], after: &[u8]) {
+    say(step);
+    say_number(b" number=", number);
+    say_number(b" id=", id);
+    if number == 0 {
+        say_number(b" active=", word(after, 1028));
+        say_number(b" deleted=", word(after, 1032));
+        say_chain(after);
+        say_zones(after);
+    }
+    say_books(before, after);
+}

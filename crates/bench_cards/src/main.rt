@@ -5,13 +5,16 @@ mod line;
 use crate::card::create;
 use crate::card::create_cell;
 use crate::card::create_on;
+use crate::card::delete;
 use crate::card::format_books;
 use crate::card::formatted;
 use crate::card::grow_to;
 use crate::card::mount_books;
 use crate::card::mounted;
+use crate::card::protect;
+use crate::card::remove;
+use crate::card::restore;
 use crate::card::space;
-use field::parts::fill;
 
 // Counts per zone type, on fresh cards with open zones enough; P3 follows P2 on its card.
 fn counts_cards() {
@@ -86,38 +89,13 @@ fn free_zone_given() {
     space(&given);
 }
 
-// Makes n bytes zero from `at` on, as far as the books have them.
-fn clear(b: &mut [u8], at: usize, n: usize) {
-    if n > b.len() {
-        return;
-    }
-    if at > b.len() - n {
-        return;
-    }
-    fill(b, at, n, 0);
-}
-
-// Takes file 1 off the card by hand: three sectors from 1024 on, index table 1, next free table 3.
-fn without_first(card: [u8; 5120]) -> [u8; 5120] {
-    let mut after = card;
-    // one active file, seven free index tables, the first free one is 1
-    after[1031] = 1;
-    after[1039] = 7;
-    after[1053] = 1;
-    // zone 2: 1,023 free blocks, and of the first eight sectors only 1027 in use
-    after[2057] = 255;
-    after[3200] = 16;
-    clear(&mut after, 4096, 124);
-    after[4223] = 3;
-    after
-}
-
 // Freed blocks are used again, the lowest first.
 fn freed_used_again() {
     let fresh = mounted(formatted(3, 8));
     let one = create(b"three blocks", fresh, b"one", 3000, 4);
     let two = create(b"one block", one, b"two", 1000, 4);
-    let freed = without_first(two);
+    let marked = remove(b"temporary delete", two, 1);
+    let freed = delete(b"actual delete", marked, 1);
     space(&freed);
     let again = create(b"five blocks", freed, b"again", 5000, 4);
     space(&again);
@@ -165,6 +143,10 @@ fn eleven_pointers() {
     space(&moved);
     let two = create(b"twelve blocks", moved, b"two", 12288, 4);
     space(&two);
+    // both its tables go before the old free chain, in order
+    let marked = remove(b"temporary delete", two, 2);
+    let freed = delete(b"actual delete", marked, 2);
+    space(&freed);
 }
 
 // Grow of a variable file with blocks of type D.
@@ -185,6 +167,31 @@ fn growing() {
     space(&full);
 }
 
+// A day at the bench, as far as the books tell it: a curve is made, deleted, recovered; another takes no part of it; at last both are given back.
+fn day() {
+    let fresh = mounted(formatted(4, 8));
+    let curve = create(b"curve", fresh, b"CURVE 60A", 5000, 0);
+    let active = delete(b"actual delete of an active file", curve, 1);
+    let marked = remove(b"temporary delete", active, 1);
+    let twice = remove(b"temporary delete again", marked, 1);
+    // the deleted file keeps its id and its blocks, so that it can be recovered
+    let other = create(b"another curve", twice, b"CURVE 100A", 5000, 0);
+    let back = restore(b"recover", other, 1);
+    let same = restore(b"recover again", back, 1);
+    let shut = protect(b"protect 4", same, 2, 4);
+    let kept = remove(b"temporary delete of a protected file", shut, 2);
+    let odd = protect(b"protect 5", kept, 2, 5);
+    let free = protect(b"protect 0", odd, 2, 0);
+    let gone = delete(b"actual delete", remove(b"temporary delete", free, 1), 1);
+    let none = restore(b"recover of no file", gone, 1);
+    // its index table and its blocks are the first to be had again
+    let again = create(b"reuse", none, b"CURVE 25A", 5000, 0);
+    let first = delete(b"actual delete", remove(b"temporary delete", again, 2), 2);
+    let empty = delete(b"actual delete", remove(b"temporary delete", first, 1), 1);
+    let whole = create(b"H", empty, b"file", 1, 128);
+    space(&whole);
+}
+
 fn main() {
     counts_cards();
     four_zones();
@@ -195,4 +202,5 @@ fn main() {
     freed_used_again();
     eleven_pointers();
     growing();
+    day();
 }

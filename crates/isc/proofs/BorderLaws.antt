@@ -1,5 +1,6 @@
 -- The C border: what a request answered, handed back by number, pointer and buffer. Assumes nothing.
 use mathlib.Core.Path.{_≡_, refl, sym, ap, _∙_}
+use mathlib.Core.Bool.{Bool}
 use mathlib.Core.List.{List}
 use Prim.Native.Nat.{ℕ, _+_, _≤_, _<_}
 use native.Mathlib.Decide.{decLt}
@@ -8,8 +9,12 @@ use lib.ListN.{length, take}
 use lib.IntN.{ℤ}
 use Rattle.field.specs.Parts.{over}
 use Rattle.tables.specs.declared.kinds.Index.{Index}
+use Rattle.tables.specs.declared.kinds.Sector.{Sector}
+use Rattle.requests.specs.declared.answer.Answer.{Answer}
 use Rattle.requests.specs.declared.create.Created.{Created}
 use Rattle.requests.specs.declared.create.Created.the-variants.{Done, Refused as NotMade}
+use Rattle.requests.specs.declared.locate.Located.{Located}
+use Rattle.requests.specs.declared.locate.Located.the-variants.{At, Refused as NotLocated}
 use Rattle.requests.specs.declared.space.Space.{Space}
 use Rattle.requests.specs.declared.space.Space.the-variants.{Is, Refused}
 use Rattle.requests.specs.declared.report.Text.{Text}
@@ -29,7 +34,18 @@ use Rattle.allocation.specs.NewTables.{New}
 use Rattle.requests.specs.Create.{numberOf as createdNumber, idValue, Creates, CreatedFixed, CreatedVariable}
 use Rattle.requests.proofs.CreateLaws.{creates-one}
 use Rattle.requests.specs.Grow.{Grew}
-use Rattle.isc.specs.Border.{CreateOut, SpaceOut, Lines, ReportOut}
+use Rattle.requests.specs.Answers.{numberOf as answerNumber, valueOf}
+use Rattle.requests.specs.Search.{Searched}
+use Rattle.requests.proofs.SearchLaws.{searched-one}
+use Rattle.requests.specs.Listing.{Listed}
+use Rattle.requests.proofs.ListLaws.{listed-one}
+use Rattle.requests.specs.Locate.{numberOf as locatedNumber, sectorValue, Locates}
+use Rattle.requests.proofs.LocateLaws.{located-one}
+use Rattle.requests.specs.Read.{ReadOut}
+use Rattle.requests.proofs.ReadLaws.{read-one as read-out-one}
+use Rattle.requests.specs.Write.{Wrote}
+use Rattle.requests.proofs.WriteLaws.{wrote-one}
+use Rattle.isc.specs.Border.{AnswerOut, CreateOut, LocateOut, SpaceOut, Lines, ReportOut}
 
 pub space-is : (b : List ℕ) (found : Space) (s u : ℕ) → Spaced b found → found ≡ Is s u → SpaceOut b 0 s u
 space-is b found s u h e = record { answer = Is s u; spaced = rw e at h; number = refl; all = refl; taken = refl }
@@ -74,6 +90,23 @@ variable-border b b' name date x kind cell made e h = rw (← e) h
 pub grow-border : (b b' date : List ℕ) (id : ℕ) (x : ℤ) (long : Amount) (r : ℕ) → long ≡ amountOf x → Grew b id long date r b' → Grew b id (amountOf x) date r b'
 grow-border b b' date id x long r e h = rw (← e) h
 
+pub locate-at : (b : List ℕ) (id k : ℕ) (found : Located) (s : Sector) → Locates b id k found → found ≡ At s → LocateOut b id k 0 (s .0)
+locate-at b id k found s h e = record { answer = At s; locates = rw e at h; number = refl; value = refl }
+
+pub locate-no : (b : List ℕ) (id k : ℕ) (found : Located) (n : ℕ) → Locates b id k found → found ≡ NotLocated n → LocateOut b id k n 0
+locate-no b id k found n h e = record { answer = NotLocated n; locates = rw e at h; number = refl; value = refl }
+
+-- a request's promise with the number and the value that `hand_back` gives
+pub answer-out : (P : Answer → Type 0) (answer : Answer) (r value : ℕ) → P answer → (r ≡ answerNumber answer) × (value ≡ valueOf answer) → AnswerOut P r value
+answer-out P answer r value h e = record { answer = answer; holds = h; number = e .0; one = e .1 }
+
+pub read-border : (b body out out' : List ℕ) (id : ℕ) (x y : ℤ) (at long : Amount) (exchange : Bool) (r : Answer) → at ≡ amountOf x → long ≡ amountOf y → ReadOut b body id at long exchange out r out' → ReadOut b body id (amountOf x) (amountOf y) exchange out r out'
+read-border b body out out' id x y at long exchange r e f h = rw (← e, ← f) h
+
+pub write-border : (b b' body body' input date : List ℕ) (id : ℕ) (x y : ℤ) (at long : Amount) (exchange : Bool) (r : Answer) → at ≡ amountOf x → long ≡ amountOf y
+    → Wrote b body id at long exchange input date r b' body' → Wrote b body id (amountOf x) (amountOf y) exchange input date r b' body'
+write-border b b' body body' input date id x y at long exchange r e f h = rw (← e, ← f) h
+
 -- ---- one result
 
 pub create-one : (b : List ℕ) (P : Type 0) (counts : List ℕ) (new : New) (x y : List ℕ) (r r' id id' : ℕ)
@@ -81,6 +114,35 @@ pub create-one : (b : List ℕ) (P : Type 0) (counts : List ℕ) (new : New) (x 
 create-one b P counts new x y r r' id id' h k =
     let e = creates-one b P counts new (h .answer) (k .answer) x y (h .holds) (k .holds) in
     (h .number ∙ ap createdNumber (e .0) ∙ sym (k .number), h .value ∙ ap idValue (e .0) ∙ sym (k .value), e .1)
+
+-- promises P and Q that allow one answer, and S of what else they leave
+pub answer-one : (P Q : Answer → Type 0) (S : Type 0) (r r' v v' : ℕ) → ((x y : Answer) → P x → Q y → (x ≡ y) × S) → AnswerOut P r v → AnswerOut Q r' v' → (r ≡ r') × (v ≡ v') × S
+answer-one P Q S r r' v v' one h k =
+    let e = one (h .answer) (k .answer) (h .holds) (k .holds) in
+    (h .number ∙ ap answerNumber (e .0) ∙ sym (k .number), h .one ∙ ap valueOf (e .0) ∙ sym (k .one), e .1)
+
+pub search-one : (b pattern ids x y : List ℕ) (r r' n n' : ℕ)
+    → AnswerOut (λ answer. Searched b pattern ids answer x) r n → AnswerOut (λ answer. Searched b pattern ids answer y) r' n' → (r ≡ r') × (n ≡ n') × (x ≡ y)
+search-one b pattern ids x y r r' n n' = answer-one _ _ _ r r' n n' (λ a c. searched-one b pattern ids a c x y)
+
+pub list-one : (b : List ℕ) (from : ℕ) (entries x y : List ℕ) (r r' n n' : ℕ)
+    → AnswerOut (λ answer. Listed b from entries answer x) r n → AnswerOut (λ answer. Listed b from entries answer y) r' n' → (r ≡ r') × (n ≡ n') × (x ≡ y)
+list-one b from entries x y r r' n n' = answer-one _ _ _ r r' n n' (λ a c. listed-one b from entries a c x y)
+
+pub read-one : (b body : List ℕ) (id : ℕ) (at long : Amount) (exchange : Bool) (out x y : List ℕ) (r r' n n' : ℕ)
+    → AnswerOut (λ answer. ReadOut b body id at long exchange out answer x) r n → AnswerOut (λ answer. ReadOut b body id at long exchange out answer y) r' n' → (r ≡ r') × (n ≡ n') × (x ≡ y)
+read-one b body id at long exchange out x y r r' n n' = answer-one _ _ _ r r' n n' (λ a c. read-out-one b body id at long exchange out a c x y)
+
+pub write-one : (b body : List ℕ) (id : ℕ) (at long : Amount) (exchange : Bool) (input date x y u w : List ℕ) (r r' n n' : ℕ)
+    → AnswerOut (λ answer. Wrote b body id at long exchange input date answer x u) r n → AnswerOut (λ answer. Wrote b body id at long exchange input date answer y w) r' n' → (r ≡ r') × (n ≡ n') × (x ≡ y) × (u ≡ w)
+write-one b body id at long exchange input date x y u w r r' n n' h k =
+    let e = answer-one _ _ ((x ≡ y) × (u ≡ w)) r r' n n' (λ a c p q. let i = wrote-one b body id at long exchange input date a c x y u w p q in (i .0, (i .1, i .2))) h k in
+    (e .0, e .1, e .2 .0, e .2 .1)
+
+pub locate-one : (b : List ℕ) (id k r r' s s' : ℕ) → LocateOut b id k r s → LocateOut b id k r' s' → (r ≡ r') × (s ≡ s')
+locate-one b id k r r' s s' h l =
+    let e : h .answer ≡ l .answer = located-one b id k (h .answer) (l .answer) (h .locates) (l .locates) in
+    (h .number ∙ ap locatedNumber e ∙ sym (l .number), h .value ∙ ap sectorValue e ∙ sym (l .value))
 
 pub space-one : (b : List ℕ) (r r' s s' u u' : ℕ) → SpaceOut b r s u → SpaceOut b r' s' u' → (r ≡ r') × (s ≡ s') × (u ≡ u')
 space-one b r r' s s' u u' h k =

@@ -1,29 +1,48 @@
 // The C interface: each function takes its numbers and slices, calls one request, and hands back the number and the values.
 use field::parts::copy;
+use requests::actual_delete::actual_delete;
 use requests::amount::amount_of;
+use requests::answer::Answer;
 use requests::create::Created;
 use requests::create_fixed::create_fixed;
 use requests::create_variable::create_variable;
 use requests::dismount::dismount;
 use requests::format::format;
 use requests::grow::grow;
+use requests::list::list;
+use requests::locate::Located;
+use requests::locate::locate;
 use requests::mount::mount;
+use requests::read::read;
 use requests::recover::recover;
 use requests::report::report;
+use requests::search::search;
 use requests::set_protection::set_protection;
+use requests::show::Part;
+use requests::show::show_number;
+use requests::show::show_part;
 use requests::space::Space;
 use requests::space::space_of;
 use requests::temporary_delete::temporary_delete;
+use requests::write::write;
 use tables::counts::chosen_types;
 ghost use mathlib.Core.Path.{_≡_};
 ghost use Rattle.tables.specs.Counts.{chosenTypes};
+ghost use Rattle.tables.specs.Gates.{Gate};
 ghost use Rattle.requests.specs.Amounts.{amountOf};
+ghost use Rattle.requests.specs.Answers.{numberOf, valueOf};
 ghost use Rattle.requests.specs.Create.{CreatedFixed, CreatedVariable};
+ghost use Rattle.requests.specs.Delete.{Deleted};
 ghost use Rattle.requests.specs.Format.{Formatted};
 ghost use Rattle.requests.specs.Grow.{Grew};
+ghost use Rattle.requests.specs.Listing.{Listed};
 ghost use Rattle.requests.specs.Mount.{Mounted, Dismounted};
+ghost use Rattle.requests.specs.Read.{ReadOut};
+ghost use Rattle.requests.specs.Search.{Searched};
+ghost use Rattle.requests.specs.Show.{showTests, ShownAt};
 ghost use Rattle.requests.specs.State.{Removed, Recovered, Protected};
-ghost use Rattle.isc.specs.Border.{CreateOut, SpaceOut, ReportOut};
+ghost use Rattle.requests.specs.Write.{Wrote};
+ghost use Rattle.isc.specs.Border.{asked, AnswerOut, CreateOut, LocateOut, SpaceOut, ReportOut};
 
 #[no_mangle]
 pub extern "C" fn isc_format(
@@ -129,10 +148,66 @@ pub extern "C" fn isc_recover(books: &mut [u8], id: u32, date: &[u8]) -> u32
 }
 
 #[no_mangle]
+pub extern "C" fn isc_actual_delete(books: &mut [u8], id: u32, date: &[u8]) -> u32
+    ensures { λ r. ⌜ Deleted (now (books .entry)) id (now (date .entry)) r (now (books .exit)) ⌝ }
+{
+    actual_delete(books, id, date)
+}
+
+#[no_mangle]
 pub extern "C" fn isc_set_protection(books: &mut [u8], id: u32, protection: u32, date: &[u8]) -> u32
     ensures { λ r. ⌜ Protected (now (books .entry)) id protection (now (date .entry)) r (now (books .exit)) ⌝ }
 {
     set_protection(books, id, protection, date)
+}
+
+// Hands back an answer with one value.
+fn hand_back(answer: Answer, value: &mut u32) -> u32
+    ensures { λ r. ⌜ (r ≡ numberOf answer) × (now (value .exit) ≡ valueOf answer) ⌝ }
+{
+    match answer {
+        Answer::Done(n) => {
+            *value = n;
+            0
+        }
+        Answer::Refused(n) => {
+            *value = 0;
+            n
+        }
+    }
+}
+
+#[no_mangle]
+pub extern "C" fn isc_search(books: &[u8], pattern: &[u8], ids: &mut [u32], count: &mut u32) -> u32
+    ensures { λ r. ⌜ AnswerOut (λ answer. Searched (now (books .entry)) (now (pattern .entry)) (now (ids .entry)) answer (now (ids .exit))) r (now (count .exit)) ⌝ }
+{
+    let answer = search(books, pattern, ids);
+    hand_back(answer, count)
+}
+
+#[no_mangle]
+pub extern "C" fn isc_list(books: &[u8], from: u32, entries: &mut [u8], count: &mut u32) -> u32
+    ensures { λ r. ⌜ AnswerOut (λ answer. Listed (now (books .entry)) from (now (entries .entry)) answer (now (entries .exit))) r (now (count .exit)) ⌝ }
+{
+    let answer = list(books, from, entries);
+    hand_back(answer, count)
+}
+
+#[no_mangle]
+pub extern "C" fn isc_locate(books: &[u8], id: u32, k: u32, sector: &mut u32) -> u32
+    ensures { λ r. ⌜ LocateOut (now (books .entry)) id k r (now (sector .exit)) ⌝ }
+{
+    let found = locate(books, id, k);
+    match found {
+        Located::At(s) => {
+            *sector = s.0;
+            0
+        }
+        Located::Refused(n) => {
+            *sector = 0;
+            n
+        }
+    }
 }
 
 #[no_mangle]
@@ -168,4 +243,57 @@ pub extern "C" fn isc_report(books: &[u8], text: &mut [u8], length: &mut u32) ->
     copy(text, 0, &bytes[..n]);
     *length = n as u32;
     0
+}
+
+#[no_mangle]
+pub extern "C" fn isc_read(
+    books: &[u8],
+    body: &[u8],
+    id: u32,
+    position: i32,
+    length: i32,
+    exchange: u32,
+    out: &mut [u8],
+    moved: &mut u32,
+) -> u32
+    ensures { λ r. ⌜ AnswerOut (λ answer. ReadOut (now (books .entry)) (now (body .entry)) id (amountOf position) (amountOf length) (asked exchange) (now (out .entry)) answer (now (out .exit))) r (now (moved .exit)) ⌝ }
+{
+    let at = amount_of(position);
+    let long = amount_of(length);
+    let answer = read(books, body, id, at, long, exchange != 0, out);
+    hand_back(answer, moved)
+}
+
+#[no_mangle]
+pub extern "C" fn isc_write(
+    books: &mut [u8],
+    body: &mut [u8],
+    id: u32,
+    position: i32,
+    length: i32,
+    exchange: u32,
+    input: &[u8],
+    date: &[u8],
+    moved: &mut u32,
+) -> u32
+    ensures { λ r. ⌜ AnswerOut (λ answer. Wrote (now (books .entry)) (now (body .entry)) id (amountOf position) (amountOf length) (asked exchange) (now (input .entry)) (now (date .entry)) answer (now (books .exit)) (now (body .exit))) r (now (moved .exit)) ⌝ }
+{
+    let at = amount_of(position);
+    let long = amount_of(length);
+    let answer = write(books, body, id, at, long, exchange != 0, input, date);
+    hand_back(answer, moved)
+}
+
+#[no_mangle]
+pub extern "C" fn isc_show_place(books: &[u8], body: &[u8], id: u32, k: u32) -> Part
+    ensures { λ r. ⌜ ShownAt (now (books .entry)) (now (body .entry)) id k r ⌝ }
+{
+    show_part(books, body, id, k)
+}
+
+#[no_mangle]
+pub extern "C" fn isc_show_number(books: &[u8], body: &[u8], id: u32, k: u32) -> u32
+    ensures { λ r. ⌜ Gate (showTests (now (books .entry)) (now (body .entry)) id k) r ⌝ }
+{
+    show_number(books, body, id, k)
 }

@@ -1,7 +1,7 @@
 -- Create fixed, create variable and grow keep the books good: the rules hold of the books afterwards, at the same places. Assumes nothing.
 use mathlib.Core.Path.{_≡_, refl}
 use mathlib.Core.List.{List, [], _∷_}
-use Prim.Native.Nat.{ℕ, zero, suc, _+_, _*_, _≤_, _<_}
+use Prim.Native.Nat.{ℕ, _+_, _*_, _≤_, _<_}
 use native.Mathlib.Decide.{decLt}
 use native.Mathlib.Omega.{arith}
 use lib.ListN.{length}
@@ -13,12 +13,12 @@ use Rattle.tables.specs.Books.{Good}
 use Rattle.tables.specs.Counts.{countsOf, Countable}
 use Rattle.tables.specs.Dates.{Date}
 use Rattle.tables.specs.Gates.{Gate}
-use Rattle.tables.specs.Indexes.{lengthOf}
+use Rattle.tables.specs.Indexes.{lengthOf, attributeOf}
 use Rattle.tables.specs.Places.{placesOf}
-use Rattle.tables.specs.Views.{View, viewOf}
-use Rattle.tables.specs.Rules.R8.{fileType, fileSectors}
+use Rattle.tables.specs.Views.{View, viewOf, Parent}
+use Rattle.tables.specs.Rules.R8.{fileType, fileSectors, variableBit}
 use Rattle.tables.proofs.CountsLaws.{counts-six, counts-enough}
-use Rattle.tables.proofs.GateLaws.{gate-rest}
+use Rattle.tables.proofs.GateLaws.{gate-rest, gate-front}
 use Rattle.allocation.specs.Choice.{inOrder}
 use Rattle.allocation.specs.Tails.{noPointer}
 use Rattle.allocation.specs.NewTables.{New}
@@ -32,14 +32,13 @@ use Rattle.allocation.proofs.GrownLawful.{grown-lawful, grown-quiet, blocks-eno
 use Rattle.requests.specs.declared.amount.Amount.{Amount}
 use Rattle.requests.specs.declared.amount.Amount.the-variants.{Below, Is}
 use Rattle.requests.specs.declared.create.Created.{Created}
-use Rattle.requests.specs.Answers.{after}
 use Rattle.requests.specs.Format.{sizeOf}
 use Rattle.requests.specs.Create.{argumentTests, NewFile, numberOf, Creates, attributeFor, FixedAllowed, countsFor, CreatedFixed, cellType, VariableAllowed, CreatedVariable}
 use Rattle.requests.specs.Named.{fileBytes}
-use Rattle.requests.specs.Grow.{NotBelow, GrowAllowed, growCounts, fileTests, growTests, grownTo, Grew}
+use Rattle.requests.specs.Grow.{GrowAllowed, growCounts, lackTests, growTests, grownTo, Grew}
 use Rattle.requests.proofs.MountKeeps.{done-keeps}
-use Rattle.requests.proofs.CreateLaws.{gate-front, argument-allowed, room-provides}
-use Rattle.requests.proofs.GrowLaws.{file-parent, file-variable, file-provided, grow-file}
+use Rattle.requests.proofs.CreateLaws.{argument-allowed, room-provides}
+use Rattle.requests.proofs.GrowLaws.{lack-provided, not-below, grow-parent, grow-variable, grow-room}
 
 -- ---- a new file
 
@@ -121,7 +120,9 @@ variable-keeps b name cell kind date r b' p = creates-keeps b _ _ _ r b' p (vari
 
 -- ---- grow
 
-module _ (b : List ℕ) (id long : ℕ) (date : List ℕ) (g : Good b (placesOf b)) (h : Gate (fileTests b id long) 0) (valid : Date date) (few : long < 2147483648) where
+-- a file that becomes longer is variable, and of fewer than 2,147,483,648 bytes
+module _ (b : List ℕ) (id long : ℕ) (date : List ℕ) (g : Good b (placesOf b)) (parent : Parent (viewOf (placesOf b) b) id) (h : Gate (lackTests b id long) 0) (valid : Date date)
+    (grows : lengthOf (fileBytes b id) < long → (variableBit (attributeOf (fileBytes b id)) ≡ 1) × (long < 2147483648)) where
   -- the blocks added are of the file's type, and enough
   longer-keeps : lengthOf (fileBytes b id) < long → Good (grown (placesOf b) b id (growCounts b id long) long date) (placesOf b)
   longer-keeps l =
@@ -130,24 +131,19 @@ module _ (b : List ℕ) (id long : ℕ) (date : List ℕ) (g : Good b (placesOf 
       let t : ℕ = fileType v id in
       let n : ℕ = blocksFor v id long in
       let counts = growCounts b id long in
-      let parent = file-parent b id long g h in
       let typed = lawful-typed p b id (g .lawful) parent in
-      let provided = file-provided b id long g h l (length-only t n) in
+      let provided = lack-provided b id long g h l in
       let ready = ready-grow p b id counts provided parent in
       let most : long ≤ 1024 * (fileSectors v id + sectorsIn (inOrder counts)) = rw (order-only t n typed, many-sectors n t) (blocks-enough v id long typed) in
       quiet-good b (grown p b id counts long date) p g (grown-quiet p b id counts long date provided parent valid ready)
-      (grown-lawful p b id counts long date provided parent (file-variable b id long g h) (all-only n t typed) valid few most ready)
+      (grown-lawful p b id counts long date provided parent (grows l .0) (all-only n t typed) valid (grows l .1) most ready)
 
-  grown-keeps : Good (grownTo b id long date) (placesOf b)
+  pub grown-keeps : Good (grownTo b id long date) (placesOf b)
   unfolding grownTo
   grown-keeps = elim (decLt (lengthOf (fileBytes b id)) long) [
     | yes l ↦ rw (lt-ltb (lengthOf (fileBytes b id)) long l) (longer-keeps l)
     | no nl ↦ rw (le-ltb (lengthOf (fileBytes b id)) long (omega arith)) g
   ]
-
-size-few : (long : Amount) → NotBelow long → sizeOf long < 2147483648
-size-few Below h = absurd h
-size-few (Is n) h = omega arith
 
 grow-allowed : (b : List ℕ) (id : ℕ) (long : Amount) (date : List ℕ) → Gate (growTests b id long date) 0 → GrowAllowed long date
 unfolding growTests
@@ -159,4 +155,5 @@ grew-keeps b id long date r b' p h g =
     done-keeps r (grownTo b id (sizeOf long) date) b b' p (h .books) (λ z.
     (let q : Gate (growTests b id long date) 0 = rw z at (h .number) in
     let a = grow-allowed b id long date q in
-    rw (g .places) (grown-keeps b id (sizeOf long) date (rw (g .places) at g) (grow-file b id long date 0 q refl (sizeOf long) refl) (a .date') (size-few long (a .long'))))) g
+    rw (g .places) (grown-keeps b id (sizeOf long) date (rw (g .places) at g) (grow-parent b id long date 0 q refl) (grow-room b id long date 0 q refl (sizeOf long) refl) (a .date')
+    (λ l. (grow-variable b id long date 0 q refl, omega (arith, not-below long (a .long'))))))) g

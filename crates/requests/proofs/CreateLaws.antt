@@ -17,12 +17,11 @@ use Rattle.tables.specs.Names.{NewName}
 use Rattle.tables.specs.Places.{placesOf, Layout}
 use Rattle.tables.specs.Sector1.{freeOf, firstFreeOf, flagOf}
 use Rattle.tables.specs.Gates.{Test, asks, Gate}
-use Rattle.tables.specs.Books.{Good, bookTests, Sized, Marked, Placed}
+use Rattle.tables.specs.Books.{Good, bookTests}
 use Rattle.tables.specs.Lawful.{Lawful}
 use Rattle.tables.specs.Room.{countAt, Supply, Enough}
 use Rattle.tables.specs.Views.{viewOf}
-use Rattle.tables.proofs.GateLaws.{gate-one, gate-fails, gate-passes, gate-end, gate-stop, gate-skip, gate-rest}
-use Rattle.tables.proofs.PlaceLaws.{stand-layout}
+use Rattle.tables.proofs.GateLaws.{gate-one, gate-fails, gate-passes, gate-end, gate-stop, gate-skip, gate-rest, gate-head, gate-front, gate-swap, zero-good}
 use Rattle.tables.proofs.RoomLaws.{supply-enough, enough-supply}
 use Rattle.allocation.specs.declared.tail.Tail.{Tail}
 use Rattle.allocation.specs.Choice.{inOrder}
@@ -37,43 +36,7 @@ use Rattle.requests.specs.Answers.{after, useTests}
 use Rattle.requests.specs.Create.{argumentTests, roomTests, NewFile, numberOf, answerOf, MakesFile, Creates}
 use Rattle.requests.proofs.RequestLaws.{after-refused, after-one, good-room}
 
--- ---- tests that all pass
-
-pub gate-head : (n : ℕ) (P : Type 0) (ts : List Test) → Gate (asks n P ∷ ts) 0 → P × Gate ts 0
-unfolding Gate
-gate-head n P ts (inl h) = h
-gate-head n P ts (inr h) = absurd (h .2 refl)
-
-pub gate-front : (ts us : List Test) → Gate (ts ++ us) 0 → Gate ts 0
-unfolding Gate
-gate-front [] us g = refl
-gate-front (t ∷ ts) us (inl h) = inl (h .0, gate-front ts us (h .1))
-gate-front (t ∷ ts) us (inr h) = inr h
-
--- a condition may be said in other words
-pub gate-swap : (ts us : List Test) (n : ℕ) (P Q : Type 0) (r : ℕ) → (P → Q) → (Q → P) → Gate (ts ++ (asks n P ∷ us)) r → Gate (ts ++ (asks n Q ∷ us)) r
-unfolding Gate
-gate-swap [] us n P Q r f g (inl h) = inl (f (h .0), h .1)
-gate-swap [] us n P Q r f g (inr h) = inr (λ q. h .0 (g q), h .1, h .2)
-gate-swap (t ∷ ts) us n P Q r f g (inl h) = inl (h .0, gate-swap ts us n P Q r f g (h .1))
-gate-swap (t ∷ ts) us n P Q r f g (inr h) = inr h
-
--- books that no number refuses are good
-pub zero-good : (b : List ℕ) → Gate (bookTests b) 0 → Good b (placesOf b)
-zero-good b g =
-    let s = gate-head 1 (Sized b) _ g in
-    let m = gate-head 2 (Marked b) _ (s .1) in
-    let p = gate-head 3 (Placed b) _ (m .1) in
-    let l = gate-head 4 (Lawful (placesOf b) b) _ (p .1) in
-    let limits = p .0 .limits in
-    record {
-      places = refl;
-      sized = s .0;
-      marked = m .0;
-      placed = p .0;
-      layout = stand-layout (placesOf b) (length b) (limits .least) (limits .most) (limits .some) (limits .few) (s .0 .most) (p .0 .stand);
-      lawful = l .0;
-    }
+-- ---- the books, once they are judged
 
 pub good-at : (b : List ℕ) (p : Places) → Good b (placesOf b) → p ≡ placesOf b → Good b p
 good-at b p g e = rw e g

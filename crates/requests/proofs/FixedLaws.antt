@@ -3,7 +3,7 @@ use mathlib.Core.Path.{_≡_, refl, sym, ap, _∙_}
 use mathlib.Core.Logic.{_≢_}
 use mathlib.Core.Bool.{Bool, not, true, false}
 use mathlib.Core.List.{List}
-use Prim.Native.Nat.{ℕ, zero, suc, _+_, _*_, _%_, _≤_, _<_}
+use Prim.Native.Nat.{ℕ, _+_, _*_, _%_, _≤_, _<_}
 use native.Mathlib.Omega.{arith}
 use lib.Dec.{eqb, leb}
 use lib.ListN.{length, replicate}
@@ -12,11 +12,10 @@ use Rattle.field.specs.Says.{Says}
 use Rattle.field.proofs.Tests.{passed, refused, says-map}
 use Rattle.tables.specs.declared.counts.Chosen.{Chosen}
 use Rattle.tables.specs.declared.counts.Chosen.the-variants.{Types, Bad}
-use Rattle.tables.specs.Blocks.{Typed, Block, blockOf}
+use Rattle.tables.specs.Blocks.{Typed, blockOf}
 use Rattle.tables.specs.Counts.{countsOf, blockBytes, Countable}
 use Rattle.tables.specs.Gates.{Gate}
 use Rattle.tables.proofs.CountsLaws.{bytes-high}
-use Rattle.allocation.specs.Search.{find}
 use Rattle.allocation.specs.Files.{onlyCounts}
 use Rattle.allocation.proofs.SearchLaws.{search-hit, search-more, search-end}
 use Rattle.requests.specs.declared.amount.Amount.{Amount}
@@ -27,7 +26,7 @@ use Rattle.requests.specs.Create.{argumentTests, NewFile, attributeFor, 
 use Rattle.requests.proofs.CreateLaws.{argument-says, argument-allowed, create-ends}
 
 -- a test a ≤ b says what it is equivalent to
-le-says : (P : Type 0) (a b : ℕ) → (a ≤ b → P) → (P → a ≤ b) → Says (leb a b) P
+pub le-says : (P : Type 0) (a b : ℕ) → (a ≤ b → P) → (P → a ≤ b) → Says (leb a b) P
 le-says P a b f g = go (leb a b) refl
   where
     go : (r : Bool) → leb a b ≡ r → Says r P

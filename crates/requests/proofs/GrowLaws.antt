@@ -1,78 +1,44 @@
--- Requests that name a file, and grow: each way out, and that grow's promise allows one result. Assumes nothing.
+-- Grow: each way out, and that grow's promise allows one result. Assumes nothing.
 use mathlib.Core.Path.{_≡_, refl, sym, ap, _∙_}
-use mathlib.Core.Logic.{_⊎_, inl, inr, _≢_}
-use mathlib.Core.Bool.{Bool, not, true, false, cond}
-use mathlib.Core.List.{List, [], _∷_, _++_}
-use Prim.Native.Nat.{ℕ, zero, suc, _+_, _*_, _/_, _%_, _≤_, _<_}
+use mathlib.Core.Logic.{inl, inr, _≢_}
+use mathlib.Core.Bool.{Bool, true}
+use mathlib.Core.List.{List, []}
+use Prim.Native.Nat.{ℕ, _/_, _%_, _≤_, _<_}
 use native.Mathlib.Omega.{arith}
-use lib.Dec.{ltb}
 use lib.ListN.{length}
 use borrow.Author.Tests.{lt-ltb, le-ltb}
 use Rattle.field.specs.Says.{Says}
 use Rattle.field.proofs.Tests.{says-map}
 use Rattle.tables.specs.declared.places.Places.{Places}
 use Rattle.tables.specs.Dates.{Date}
-use Rattle.tables.specs.Indexes.{tableAt, wordOf, lengthOf, attributeOf}
+use Rattle.tables.specs.Indexes.{tableAt, lengthOf, attributeOf}
 use Rattle.tables.specs.Places.{placesOf, Layout}
-use Rattle.tables.specs.Gates.{Test, asks, Gate}
+use Rattle.tables.specs.Gates.{Gate}
 use Rattle.tables.specs.Books.{Good}
 use Rattle.tables.specs.Rules.R8.{fileType, variableBit}
-use Rattle.tables.specs.Rules.R9.{deletedBit}
-use Rattle.tables.specs.Room.{countAt, Supply}
 use Rattle.tables.specs.Views.{viewOf, Parent}
-use Rattle.tables.proofs.GateLaws.{gate-one, gate-fails, gate-passes, gate-end, gate-stop, gate-skip, gate-rest}
+use Rattle.tables.proofs.GateLaws.{gate-one, gate-fails, gate-passes, gate-end, gate-stop, gate-skip, gate-rest, gate-head, gate-front}
 use Rattle.tables.specs.Blocks.{Typed}
 use Rattle.allocation.proofs.SizeLaws.{type-typed}
 use Rattle.allocation.proofs.FileLaws.{cursor-bounds, length-only}
-use Rattle.allocation.specs.declared.tail.Tail.{Tail}
 use Rattle.allocation.specs.declared.growth.Cursor.{Cursor}
 use Rattle.allocation.specs.Last.{cursorOf}
-use Rattle.allocation.specs.Files.{onlyCounts, TablesEnough, Provided, blocksFor, grown}
+use Rattle.allocation.specs.Files.{onlyCounts, Provided, blocksFor, grown}
 use Rattle.requests.specs.declared.amount.Amount.{Amount}
 use Rattle.requests.specs.declared.amount.Amount.the-variants.{Below, Is}
 use Rattle.requests.specs.Create.{argumentTests, roomTests}
 use Rattle.requests.specs.Format.{sizeOf}
 use Rattle.requests.specs.Named.{fileBytes, namedTests, Unprotected}
-use Rattle.requests.specs.Grow.{GrowAllowed, growCounts, kindTests, lackTests, fileTests, growTests, grownTo, Grew}
+use Rattle.requests.specs.Grow.{NotBelow, GrowAllowed, growCounts, kindTests, lackTests, fileTests, growTests, grownTo, Grew}
 use Rattle.requests.proofs.RequestLaws.{after-refused, after-one}
-use Rattle.requests.proofs.CreateLaws.{gate-head, gate-front, argument-says, argument-allowed, argument-good, room-provides}
-
--- ---- 8 and 9
-
-module _ (b : List ℕ) (p : Places) (id : ℕ) (g : Good b p) where
-  pub named-low : id < 1 → Gate (namedTests b id) 8
-  unfolding namedTests
-  named-low h = gate-fails 8 _ _ (omega arith) (λ f. omega (arith, f .low))
-
-  pub named-high : p .indexes < id → Gate (namedTests b id) 8
-  unfolding namedTests
-  named-high h = gate-fails 8 _ _ (omega arith) (λ f. omega (arith, f .high, ap (λ (q : Places). q .indexes) (g .places)))
-
-  module _ (t : List ℕ) (is : t ≡ tableAt p b id) (w : ℕ) (word : w ≡ wordOf t) where
-    bytes : t ≡ fileBytes b id
-    bytes = is ∙ ap (λ (q : Places). tableAt q b id) (g .places)
-
-    pub named-other : w ≢ id → Gate (namedTests b id) 8
-    unfolding namedTests
-    named-other ne = gate-fails 8 _ _ (omega arith) (λ f. ne (word ∙ ap wordOf bytes ∙ f .word))
-
-    module _ (same : w ≡ id) (low : 1 ≤ id) (high : id ≤ p .indexes) where
-      parent : Parent (viewOf (placesOf b) b) id
-      parent = record { low = low; high = rw (g .places) at high; word = sym (word ∙ ap wordOf bytes) ∙ same }
-
-      pub named-deleted : (a : ℕ) → a ≡ attributeOf t → a % 2 ≢ 0 → Gate (namedTests b id) 9
-      unfolding namedTests
-      named-deleted a e ne = gate-passes 8 _ _ 9 parent (gate-fails 9 _ [] (omega arith) (λ z. ne (ap deletedBit (e ∙ ap attributeOf bytes) ∙ z)))
-
-      pub named-fine : (a : ℕ) → a ≡ attributeOf t → a % 2 ≡ 0 → Gate (namedTests b id) 0
-      unfolding namedTests
-      named-fine a e z = gate-passes 8 _ _ 0 parent (gate-passes 9 _ [] 0 (sym (ap deletedBit (e ∙ ap attributeOf bytes)) ∙ z) gate-end)
+use Rattle.requests.proofs.CreateLaws.{argument-says, argument-allowed, argument-good, room-provides}
+use Rattle.requests.proofs.NamedLaws.{attribute-read, named-parent}
 
 -- ---- 10 and 11
 
 module _ (b : List ℕ) (p : Places) (id : ℕ) (g : Good b p) (t : List ℕ) (bytes : t ≡ tableAt p b id) (a : ℕ) (is : a ≡ attributeOf t) where
   here : a ≡ attributeOf (fileBytes b id)
-  here = is ∙ ap attributeOf bytes ∙ ap (λ (q : Places). attributeOf (tableAt q b id)) (g .places)
+  here = attribute-read b p id g t bytes a is
 
   pub kind-protected : a / 4 % 2 ≢ 0 → Gate (kindTests b id) 10
   unfolding kindTests
@@ -126,10 +92,6 @@ module _ (b : List ℕ) (id long : ℕ) where
   unfolding fileTests
   file-unnamed n h ne = gate-stop (namedTests b id) _ n h ne
 
-  pub named-parent : (p : Places) (n : ℕ) → Good b p → Gate (namedTests b id) n → n ≡ 0 → Parent (viewOf p b) id
-  unfolding namedTests
-  named-parent p n g h e = rw (g .places) (gate-head 8 (Parent (viewOf (placesOf b) b) id) _ (rw e at h) .0)
-
   module _ (n : ℕ) (h : Gate (namedTests b id) n) (e : n ≡ 0) (k : ℕ) (q : Gate (kindTests b id) k) where
     pub file-kind : k ≢ 0 → Gate (fileTests b id long) k
     unfolding fileTests
@@ -139,27 +101,36 @@ module _ (b : List ℕ) (id long : ℕ) where
     unfolding fileTests
     file-lack r z l = gate-skip (namedTests b id) _ n r h e (gate-skip (kindTests b id) _ k r q z l)
 
-  -- where none of them applies, and the file becomes longer, there is all that it takes
+  -- where none of them applies
   module _ (g : Good b (placesOf b)) (h : Gate (fileTests b id long) 0) where
-    pub file-parent : Parent (viewOf (placesOf b) b) id
+    file-parent : Parent (viewOf (placesOf b) b) id
     unfolding fileTests
-    file-parent = named-parent (placesOf b) 0 g (gate-front (namedTests b id) _ h) refl
+    file-parent = named-parent b id (placesOf b) 0 g (gate-front (namedTests b id) _ h) refl
 
-    pub file-variable : variableBit (attributeOf (fileBytes b id)) ≡ 1
+    file-variable : variableBit (attributeOf (fileBytes b id)) ≡ 1
     unfolding fileTests kindTests
     file-variable =
         let k = gate-front (kindTests b id) _ (gate-rest (namedTests b id) _ h) in
         gate-head 11 _ [] (gate-head 10 (Unprotected 4 b id) _ k .1) .0
 
-    pub file-provided : lengthOf (fileBytes b id) < long → length (growCounts b id long) ≡ 6 → Provided (placesOf b) b (cursorOf (placesOf b) b id .tail) (growCounts b id long)
-    unfolding fileTests lackTests roomTests
-    file-provided lt six =
-        let l = gate-rest (kindTests b id) _ (gate-rest (namedTests b id) _ h) in
-        let s = gate-head 12 _ _ l in
-        let t = gate-head 13 _ [] (s .1) in
-        room-provides b (placesOf b) (cursorOf (placesOf b) b id .tail) (growCounts b id long) 0 g six (gate-passes 12 _ _ 0 (s .0 lt) (gate-passes 13 _ [] 0 (t .0 lt) gate-end)) refl
+    file-room : Gate (lackTests b id long) 0
+    unfolding fileTests
+    file-room = gate-rest (kindTests b id) _ (gate-rest (namedTests b id) _ h)
+
+  -- where neither 12 nor 13 applies, and the file becomes longer, there is all that it takes
+  pub lack-provided : Good b (placesOf b) → Gate (lackTests b id long) 0 → lengthOf (fileBytes b id) < long → Provided (placesOf b) b (cursorOf (placesOf b) b id .tail) (growCounts b id long)
+  unfolding lackTests roomTests
+  lack-provided g h lt =
+      let s = gate-head 12 _ _ h in
+      let t = gate-head 13 _ [] (s .1) in
+      room-provides b (placesOf b) (cursorOf (placesOf b) b id .tail) (growCounts b id long) 0 g (length-only _ _)
+      (gate-passes 12 _ _ 0 (s .0 lt) (gate-passes 13 _ [] 0 (t .0 lt) gate-end)) refl
 
 -- ---- arguments
+
+pub not-below : (a : Amount) → NotBelow a → sizeOf a ≤ 2147483647
+not-below Below h = absurd h
+not-below (Is n) h = h
 
 module _ (long : Amount) (date : List ℕ) where
   pub grow-below : long ≡ Below → GrowAllowed long date → ⊥
@@ -191,9 +162,18 @@ module _ (b : List ℕ) (id : ℕ) (long : Amount) (date : List ℕ) where
     unfolding growTests
     grow-books = argument-good b (GrowAllowed long date) 0 (gate-front (argumentTests b (GrowAllowed long date)) _ (rw e at g)) refl
 
-    pub grow-file : (x : ℕ) → x ≡ sizeOf long → Gate (fileTests b id x) 0
+    tests : Gate (fileTests b id (sizeOf long)) 0
     unfolding growTests
-    grow-file x is = rw is (gate-rest (argumentTests b (GrowAllowed long date)) _ (rw e at g))
+    tests = gate-rest (argumentTests b (GrowAllowed long date)) _ (rw e at g)
+
+    pub grow-parent : Parent (viewOf (placesOf b) b) id
+    grow-parent = file-parent b id (sizeOf long) grow-books tests
+
+    pub grow-variable : variableBit (attributeOf (fileBytes b id)) ≡ 1
+    grow-variable = file-variable b id (sizeOf long) grow-books tests
+
+    pub grow-room : (x : ℕ) → x ≡ sizeOf long → Gate (lackTests b id x) 0
+    grow-room x is = rw is (file-room b id (sizeOf long) grow-books tests)
 
     pub grow-date : length date ≡ 6
     unfolding growTests
@@ -207,29 +187,38 @@ module _ (b : List ℕ) (id : ℕ) (long : Amount) (date : List ℕ) where
 
 -- ---- the books afterwards
 
-module _ (b : List ℕ) (p : Places) (id long : ℕ) (date : List ℕ) (is : p ≡ placesOf b) (t : List ℕ) (bytes : t ≡ tableAt p b id) (n : ℕ) (has : n ≡ lengthOf t) where
+module _ (b : List ℕ) (p : Places) (id long : ℕ) (is : p ≡ placesOf b) (t : List ℕ) (bytes : t ≡ tableAt p b id) (n : ℕ) (has : n ≡ lengthOf t) where
   old : n ≡ lengthOf (fileBytes b id)
   old = has ∙ ap lengthOf bytes ∙ ap (λ (q : Places). lengthOf (tableAt q b id)) is
 
-  pub lengthen-not : long ≤ n → b ≡ grownTo b id long date
+  pub lengthen-not : (date : List ℕ) → long ≤ n → b ≡ grownTo b id long date
   unfolding grownTo
-  lengthen-not le = rw (le-ltb (lengthOf (fileBytes b id)) long (omega (arith, old)))
+  lengthen-not date le = rw (le-ltb (lengthOf (fileBytes b id)) long (omega (arith, old)))
 
-  pub lengthen-done : (c b' : List ℕ) → n < long → c ≡ growCounts b id long → b' ≡ grown p b id c long date → b' ≡ grownTo b id long date
+  pub lengthen-done : (date c b' : List ℕ) → n < long → c ≡ growCounts b id long → b' ≡ grown p b id c long date → b' ≡ grownTo b id long date
   unfolding grownTo
-  lengthen-done c b' lt are h = rw (lt-ltb (lengthOf (fileBytes b id)) long (omega (arith, old))) (rw (are, is) at h)
+  lengthen-done date c b' lt are h = rw (lt-ltb (lengthOf (fileBytes b id)) long (omega (arith, old))) (rw (are, is) at h)
 
-  -- what reading the file's table, counting its blocks and adding them ask
-  module _ (g : Good b (placesOf b)) (h : Gate (fileTests b id long) 0) where
-    pub lengthen-adds : (c : List ℕ) → n < long → c ≡ growCounts b id long → Provided p b (cursorOf p b id .tail) c × Parent (viewOf p b) id
-    lengthen-adds c lt are = rw (are, is) (file-provided b id long g h (omega (arith, old)) (length-only _ _), file-parent b id long g h)
+  -- what adding its blocks asks
+  pub lengthen-adds : (c : List ℕ) → Good b (placesOf b) → Gate (lackTests b id long) 0 → n < long → c ≡ growCounts b id long → Provided p b (cursorOf p b id .tail) c
+  lengthen-adds c g h lt are = rw (are, is) (lack-provided b id long g h (omega (arith, old)))
 
-module _ (b : List ℕ) (p : Places) (id long : ℕ) (is : p ≡ placesOf b) (g : Good b (placesOf b)) (h : Gate (fileTests b id long) 0) where
-  pub lengthen-reads : Layout p (length b) × ((1 ≤ id) × (id ≤ p .indexes))
-  lengthen-reads = let f = file-parent b id long g h in rw is (g .layout, (f .low, f .high))
+-- what reading the file's table and counting its blocks ask
+module _ (b : List ℕ) (p : Places) (id : ℕ) (is : p ≡ placesOf b) (g : Good b (placesOf b)) (parent : Parent (viewOf (placesOf b) b) id) where
+  pub lengthen-good : Good b p
+  lengthen-good = rw is g
 
-  pub lengthen-counts : Good b p × Parent (viewOf p b) id
-  lengthen-counts = rw is (g, file-parent b id long g h)
+  pub lengthen-layout : Layout p (length b)
+  lengthen-layout = lengthen-good .layout
+
+  pub lengthen-parent : Parent (viewOf p b) id
+  lengthen-parent = rw is parent
+
+  pub lengthen-low : 1 ≤ id
+  lengthen-low = parent .low
+
+  pub lengthen-high : id ≤ p .indexes
+  lengthen-high = lengthen-parent .high
 
 -- ---- one result
 

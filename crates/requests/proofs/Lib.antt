@@ -6,8 +6,17 @@ pub mod AmountLaws
 pub mod FormatRequestLaws
 pub mod MountKeeps
 pub mod CreateLaws
+pub mod NamedLaws
 pub mod GrowLaws
 pub mod FixedLaws
 pub mod CreateKeeps
 pub mod StateLaws
 pub mod StateKeeps
+pub mod LocateLaws
+pub mod DeleteLaws
+pub mod SearchLaws
+pub mod ListLaws
+pub mod BenchCards
+pub mod ReadLaws
+pub mod WriteLaws
+pub mod WriteKeeps

@@ -12,7 +12,8 @@ use Rattle.tables.specs.declared.check.Checked.{Checked}
 use Rattle.tables.specs.declared.check.Checked.the-variants.{Fine, Refused}
 use Rattle.tables.specs.Books.{Sized, Good, bookTests, Examined}
 use Rattle.tables.proofs.GateLaws.{gate-one, gate-rest, good-zero}
-use Rattle.requests.specs.Answers.{after}
+use Rattle.requests.specs.declared.answer.Answer.{Answer}
+use Rattle.requests.specs.Answers.{after, numberOf, answerOf}
 
 -- books that are good have their two first sectors
 pub good-room : (b : List ℕ) (p : Places) → Good b p → 2048 ≤ length b
@@ -30,6 +31,10 @@ after-done r b new old e h = rw e h
 -- one number, one content
 pub after-one : (r s : ℕ) (x y new old : List ℕ) → r ≡ s → x ≡ after r new old → y ≡ after s new old → x ≡ y
 after-one r s x y new old e h k = h ∙ ap (λ (n : ℕ). after n new old) e ∙ sym k
+
+-- one number and one value, one answer
+pub answers-one : (r s : Answer) (u v : ℕ) → r ≡ answerOf (numberOf r) u → s ≡ answerOf (numberOf s) v → numberOf r ≡ numberOf s → u ≡ v → r ≡ s
+answers-one r s u v h k e f = h ∙ ap₂ (λ (n m : ℕ). answerOf n m) e f ∙ sym k
 
 -- a number 0 of tests that begin with the books' says that the books are of an allowed size
 pub zero-sized : (b : List ℕ) (us : List Test) (r : ℕ) → Gate (bookTests b ++ us) r → r ≡ 0 → Sized b

@@ -12,7 +12,7 @@ use Rattle.field.specs.Parts.{over}
 use Rattle.field.proofs.Frames.{kept-refl, kept-trans, kept-wider}
 use Rattle.field.proofs.NumberLaws.{u16-kept, u32-kept, kept-putU16, kept-putU32, u16-put-same, u32-put-same}
 use Rattle.field.proofs.PartLaws.{kept-over, over-part, same-at}
-use Rattle.field.proofs.Sums.{sum-same, sum-part}
+use Rattle.field.proofs.Sums.{sum-same}
 use Rattle.tables.specs.declared.places.Places.{Places}
 use Rattle.tables.specs.Kinds.{zoneOf}
 use Rattle.tables.specs.Books.{Good}
@@ -22,7 +22,7 @@ use Rattle.tables.specs.Places.{placesOf, Layout}
 use Rattle.tables.specs.Same.{Ground}
 use Rattle.tables.specs.Sector1.{activeOf, deletedOf, freeOf, systemOf, directoryOf, flagOf}
 use Rattle.tables.specs.Indexes.{tableAt, wordOf, parentOf, nameOf, createdOf, lengthOf, attributeOf, minus, slotsOf, baseOf, startOf, countOf, Used, sectorsOf, fileOf}
-use Rattle.tables.specs.Views.{View, viewOf, Parent, Child, walk, next, cov, overOf, Under, tally}
+use Rattle.tables.specs.Views.{View, viewOf, Parent, Child, walk, next, cov, overOf, Under}
 use Rattle.tables.specs.Rules.R5.{Stands}
 use Rattle.tables.specs.Rules.R8.{fileSectors, fileType, OneType, variableBit, directoryBit, systemBit, File}
 use Rattle.tables.specs.Rules.R9.{deletedBit, activeOne, deletedOne, systemOne, directoryOne, R9}
@@ -30,7 +30,7 @@ use Rattle.tables.specs.Lawful.{Lawful}
 use Rattle.tables.proofs.CountLaws.{Ones, only-eq, ones-active, ones-deleted}
 use Rattle.tables.proofs.SameLaws.{ground-R2, ground-R3}
 use Rattle.tables.proofs.FrameLaws.{table-kept, sector1-same, sector1-tails}
-use Rattle.tables.proofs.GateLaws.{gate-rest}
+use Rattle.tables.proofs.GateLaws.{gate-rest, gate-head, gate-front}
 use Rattle.tables.proofs.IndexLaws.{length-table, base-parent}
 use Rattle.allocation.specs.Held.{Shapely, Held, InType, nothing}
 use Rattle.allocation.specs.Lengthened.{Quiet}
@@ -43,10 +43,12 @@ use Rattle.allocation.proofs.PointerBytes.{word-kept, parent-kept, slots-kept, 
 use Rattle.allocation.proofs.ChangeLaws.{Changed, Stays, stays-same, member-begins, parent-file, ground-run, walk-stays, chain-stays, parent-there, begins-was, stay-R4, changed-R5, changed-R6, pointers-at, sectors-at, under-zone, changed-types, changed-R8, changed-R9}
 use Rattle.requests.specs.Create.{argumentTests}
 use Rattle.requests.specs.Named.{fileBytes, namedTests}
-use Rattle.requests.specs.State.{putAttribute, putCounts, removed, recovered, protectionOf, protected, fileRemoveTests, removeTests, removedTests, recoverTests, ProtectAllowed, protectTests, Removed, Recovered, Protected}
+use Rattle.requests.specs.State.{putAttribute, putCounts, removed, recovered, protectionOf, protected, removeTests, removedTests, recoverTests, ProtectAllowed, protectTests, Removed, Recovered, Protected}
 use Rattle.requests.proofs.RequestLaws.{good-room}
 use Rattle.requests.proofs.MountKeeps.{done-keeps}
-use Rattle.requests.proofs.CreateLaws.{gate-head, gate-front, argument-allowed}
+use Rattle.requests.proofs.CreateLaws.{argument-allowed}
+use Rattle.requests.proofs.NamedLaws.{usable-active}
+use Rattle.requests.proofs.StateLaws.{part}
 
 -- ---- the change date and the attribute
 
@@ -369,13 +371,6 @@ module _ (p : Places) (b c : List ℕ) (f a : ℕ) (date : List ℕ) (lay : Layo
         (omega (arith, q .active)) (omega (arith, q .deleted)) (omega (arith, q .free, k .free)) (omega (arith, q .system)) (omega (arith, q .directory))
         (q .flag ∙ u16-kept 1054 (k .kept) (inr (omega arith))) (old .r9)
 
--- what file f adds to a count is part of it
-part-of : (v : View) (f : ℕ) (g : ℕ → List ℕ → ℕ) → Parent v f → g f (v .table f) ≤ tally v g
-unfolding tally
-part-of v f g parent =
-    let q : f - 1 + 1 ≡ f = omega (arith, parent .low) in
-    rw q at (sum-part (v .indexes) (f - 1) (λ k. g (k + 1) (v .table (k + 1))) (omega (arith, parent .low, parent .high)))
-
 -- ---- the counts written
 
 -- they are read so
@@ -441,9 +436,9 @@ removed-alike a few e = alike-above a (a + 1) few (omega arith)
 recovered-alike : (a : ℕ) → a < 128 → a % 2 ≡ 1 → Alike a (a - 1)
 recovered-alike a few e = alike-above a (a - 1) few (omega arith)
 
-protected-alike : (a w : ℕ) → a < 128 → w % 4 ≡ 0 → w ≤ 12 → Alike a (protectionOf a w)
+protected-above : (a w : ℕ) → w % 4 ≡ 0 → w ≤ 12 → protectionOf a w / 16 ≡ a / 16
 unfolding protectionOf
-protected-alike a w few fours most = alike-above a (a / 16 * 16 + w + a % 4) few (omega arith)
+protected-above a w fours most = omega arith
 
 protected-active : (a w : ℕ) → w % 4 ≡ 0 → protectionOf a w % 2 ≡ a % 2
 unfolding protectionOf
@@ -479,10 +474,10 @@ module _ (p : Places) (b : List ℕ) (f : ℕ) (date : List ℕ) (g : Good b p) 
       let new = now-deleted p b c f (a + 1) date (g .layout) k (g .lawful) parent valid (omega arith) in
       attributed-good c (a + 1) k (removed-alike a weights e)
       (recounted p b c f (a + 1) date (g .layout) k (g .lawful) parent valid 1 0 (systemBit a) (directoryBit a) 0 1 0 0 old new
-      (omega (arith, q .active', r .active, part-of v f activeOne parent, old .active))
+      (omega (arith, q .active', r .active, part v activeOne f parent, old .active))
       (omega (arith, q .deleted'))
-      (omega (arith, q .system', r .system, part-of v f systemOne parent, old .system))
-      (omega (arith, q .directory', r .directory, part-of v f directoryOne parent, old .directory)))
+      (omega (arith, q .system', r .system, part v systemOne f parent, old .system))
+      (omega (arith, q .directory', r .directory, part v directoryOne f parent, old .directory)))
 
   recovered-good : deletedBit a ≡ 1 → Good (recovered p b f date) p
   unfolding recovered
@@ -502,34 +497,47 @@ module _ (p : Places) (b : List ℕ) (f : ℕ) (date : List ℕ) (g : Good b p) 
       attributed-good c (a - 1) k l
       (recounted p b c f (a - 1) date (g .layout) k (g .lawful) parent valid 0 1 0 0 1 0 (systemBit (a - 1)) (directoryBit (a - 1)) old new
       (omega (arith, q .active'))
-      (omega (arith, q .deleted', r .deleted, part-of v f deletedOne parent, old .deleted))
+      (omega (arith, q .deleted', r .deleted, part v deletedOne f parent, old .deleted))
       (omega (arith, q .system', l .system))
       (omega (arith, q .directory', l .directory)))
 
-  protected-good : (w : ℕ) → w % 4 ≡ 0 → w ≤ 12 → deletedBit a ≡ 0 → Good (protected p b f w date) p
+  -- where weight 1 and the weights from 16 on stay, no count changes
+  module _ (a' : ℕ) (above : a' / 16 ≡ a / 16) (lowest : a' % 2 ≡ a % 2) where
+    same : Recounted b b
+    same = record { kept = kept-refl b 1028 16; free = refl }
+
+    pub steady-good : Good (putAttribute p b f a' date) p
+    steady-good =
+        let l = alike-above a a' weights above in
+        let count = recounted p b b f a' date (g .layout) same (g .lawful) parent valid in
+        attributed-good b a' same l (elim (ℕ-discrete (deletedBit a) 0) [
+          | yes e ↦ count 1 0 (systemBit a) (directoryBit a) 1 0 (systemBit a') (directoryBit a') (was-active p b b f a' date (g .layout) same (g .lawful) parent valid e)
+              (now-active p b b f a' date (g .layout) same (g .lawful) parent valid (lowest ∙ e)) (omega arith) (omega arith) (omega (arith, l .system)) (omega (arith, l .directory))
+          | no ne ↦ count 0 1 0 0 0 1 0 0 (was-deleted p b b f a' date (g .layout) same (g .lawful) parent valid (omega arith))
+              (now-deleted p b b f a' date (g .layout) same (g .lawful) parent valid (omega arith)) (omega arith) (omega arith) (omega arith) (omega arith)
+        ])
+
+    pub steady-parent : Parent (viewOf p (putAttribute p b f a' date)) f
+    steady-parent = now p b b f a' date (g .layout) same (g .lawful) parent valid
+
+    pub steady-length : lengthOf (tableAt p (putAttribute p b f a' date) f) ≡ lengthOf (tableAt p b f)
+    steady-length = fields p b b f a' date (g .layout) same (g .lawful) parent valid .long'
+
+  protected-good : (w : ℕ) → w % 4 ≡ 0 → w ≤ 12 → Good (protected p b f w date) p
   unfolding protected
-  protected-good w fours most e =
-      let a' = protectionOf a w in
-      let k : Recounted b b = record { kept = kept-refl b 1028 16; free = refl } in
-      let l = protected-alike a w weights fours most in
-      let old = was-active p b b f a' date (g .layout) k (g .lawful) parent valid e in
-      let new = now-active p b b f a' date (g .layout) k (g .lawful) parent valid (protected-active a w fours ∙ e) in
-      attributed-good b a' k l
-      (recounted p b b f a' date (g .layout) k (g .lawful) parent valid 1 0 (systemBit a) (directoryBit a) 1 0 (systemBit a') (directoryBit a') old new
-      (omega arith) (omega arith) (omega (arith, l .system)) (omega (arith, l .directory)))
+  protected-good w fours most = steady-good (protectionOf a w) (protected-above a w fours most) (protected-active a w fours)
 
 -- ---- the promises
 
 -- README's promise 3, "the nine book rules still hold": after temporary delete
 pub removed-keeps : (b : List ℕ) (id : ℕ) (date : List ℕ) (r : ℕ) (b' : List ℕ) (p : Places) → Removed b id date r b' → Good b p → Good b' p
-unfolding removeTests fileRemoveTests namedTests
+unfolding removeTests
 removed-keeps b id date r b' p h g =
     done-keeps r (removed (placesOf b) b id date) b b' p (h .books) (λ z.
     (let q : Gate (removeTests b id date) 0 = rw z at (h .number) in
     let valid = argument-allowed b (Date date) 0 (gate-front (argumentTests b (Date date)) _ q) refl in
-    let file = gate-head 8 (Parent (viewOf (placesOf b) b) id) _ (gate-rest (argumentTests b (Date date)) _ q) in
-    let active = gate-head 9 (deletedBit (attributeOf (fileBytes b id)) ≡ 0) _ (file .1) in
-    rw (g .places) (removed-good (placesOf b) b id date (rw (g .places) at g) (file .0) valid (active .0)))) g
+    let file = usable-active 4 b id (gate-rest (argumentTests b (Date date)) _ q) in
+    rw (g .places) (removed-good (placesOf b) b id date (rw (g .places) at g) (file .0) valid (file .1)))) g
 
 -- after recover
 pub recovered-keeps : (b : List ℕ) (id : ℕ) (date : List ℕ) (r : ℕ) (b' : List ℕ) (p : Places) → Recovered b id date r b' → Good b p → Good b' p
@@ -550,5 +558,4 @@ protected-keeps b id w date r b' p h g =
     (let q : Gate (protectTests b id w date) 0 = rw z at (h .number) in
     let allowed = argument-allowed b (ProtectAllowed w date) 0 (gate-front (argumentTests b (ProtectAllowed w date)) _ q) refl in
     let file = gate-head 8 (Parent (viewOf (placesOf b) b) id) _ (gate-rest (argumentTests b (ProtectAllowed w date)) _ q) in
-    let active = gate-head 9 (deletedBit (attributeOf (fileBytes b id)) ≡ 0) _ (file .1) in
-    rw (g .places) (protected-good (placesOf b) b id date (rw (g .places) at g) (file .0) (allowed .date') w (allowed .fours) (allowed .most) (active .0)))) g
+    rw (g .places) (protected-good (placesOf b) b id date (rw (g .places) at g) (file .0) (allowed .date') w (allowed .fours) (allowed .most)))) g

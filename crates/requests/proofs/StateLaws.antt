@@ -22,17 +22,18 @@ use Rattle.tables.specs.Rules.R8.{directoryBit, systemBit}
 use Rattle.tables.specs.Rules.R9.{deletedBit, activeOne, deletedOne, systemOne, directoryOne}
 use Rattle.tables.specs.Views.{View, viewOf, Parent, tally}
 use Rattle.tables.proofs.CountLaws.{ones-active, ones-deleted, only-le}
-use Rattle.tables.proofs.GateLaws.{gate-one, gate-fails, gate-passes, gate-end, gate-stop, gate-skip, gate-rest}
+use Rattle.tables.proofs.GateLaws.{gate-one, gate-fails, gate-passes, gate-end, gate-stop, gate-skip, gate-rest, gate-head, gate-front}
 use Rattle.requests.specs.Create.{argumentTests}
-use Rattle.requests.specs.Named.{fileBytes, namedTests}
-use Rattle.requests.specs.State.{putAttribute, putCounts, removed, recovered, protectionOf, protected, fileRemoveTests, removeTests, Removed, removedTests, recoverTests, Recovered, ProtectAllowed, protectTests, Protected}
+use Rattle.requests.specs.Named.{fileBytes, namedTests, usableTests}
+use Rattle.requests.specs.State.{putAttribute, putCounts, removed, recovered, protectionOf, protected, removeTests, Removed, removedTests, recoverTests, Recovered, ProtectAllowed, protectTests, Protected}
 use Rattle.requests.proofs.RequestLaws.{after-refused, after-one}
-use Rattle.requests.proofs.CreateLaws.{gate-head, gate-front, argument-says, argument-allowed, argument-good}
-use Rattle.requests.proofs.GrowLaws.{named-parent}
+use Rattle.requests.proofs.CreateLaws.{argument-says, argument-allowed, argument-good}
+use Rattle.requests.proofs.NamedLaws.{attribute-read, parent-read, named-active, usable-active}
 
 -- ---- what the rules say of a file's attribute, and of sector 1's counts
 
-part : (v : View) (one : ℕ → List ℕ → ℕ) (f : ℕ) → Parent v f → one f (v .table f) ≤ tally v one
+-- what file f adds to a count is part of it
+pub part : (v : View) (one : ℕ → List ℕ → ℕ) (f : ℕ) → Parent v f → one f (v .table f) ≤ tally v one
 unfolding tally
 part v one f h =
     let e : f - 1 + 1 ≡ f = omega (arith, h .low) in
@@ -157,47 +158,18 @@ removed-eight b id (inl (h, inr (k, e, z))) = absurd (omega arith)
 removed-eight b id (inr h) = inr h
 
 module _ (b : List ℕ) (p : Places) (id : ℕ) (g : Good b p) (t : List ℕ) (is : t ≡ tableAt p b id) (w : ℕ) (word : w ≡ wordOf t) (same : w ≡ id) (low : 1 ≤ id) (high : id ≤ p .indexes) where
-  bytes : t ≡ fileBytes b id
-  bytes = is ∙ ap (λ (q : Places). tableAt q b id) (g .places)
-
   parent : Parent (viewOf (placesOf b) b) id
-  parent = record { low = low; high = rw (g .places) at high; word = sym (word ∙ ap wordOf bytes) ∙ same }
+  parent = parent-read b p id g t is w word same low high
 
   pub removed-active : (a : ℕ) → a ≡ attributeOf t → a % 2 ≢ 1 → Gate (removedTests b id) 9
   unfolding removedTests
-  removed-active a e ne = gate-passes 8 _ _ 9 parent (gate-fails 9 _ [] (omega arith) (λ z. ne (ap deletedBit (e ∙ ap attributeOf bytes) ∙ z)))
+  removed-active a e ne = gate-passes 8 _ _ 9 parent (gate-fails 9 _ [] (omega arith) (λ z. ne (ap deletedBit (attribute-read b p id g t is a e) ∙ z)))
 
   pub removed-fine : (a : ℕ) → a ≡ attributeOf t → a % 2 ≡ 1 → Gate (removedTests b id) 0
   unfolding removedTests
-  removed-fine a e z = gate-passes 8 _ _ 0 parent (gate-passes 9 _ [] 0 (sym (ap deletedBit (e ∙ ap attributeOf bytes)) ∙ z) gate-end)
-
--- ---- the tests of temporary delete: 8, 9 and 10
-
-module _ (b : List ℕ) (id : ℕ) where
-  pub unnamed : (n : ℕ) → Gate (namedTests b id) n → n ≢ 0 → Gate (fileRemoveTests b id) n
-  unfolding fileRemoveTests
-  unnamed n h ne = gate-stop (namedTests b id) _ n h ne
-
-  pub named-table : (p : Places) (n : ℕ) → Good b p → Gate (namedTests b id) n → n ≡ 0 → Layout p (length b) × ((1 ≤ id) × (id ≤ p .indexes))
-  named-table p n g h e = state-table b p g id (named-parent b id 0 p n g h e)
-
-  module _ (n : ℕ) (h : Gate (namedTests b id) n) (e : n ≡ 0) (p : Places) (g : Good b p) (t : List ℕ) (bytes : t ≡ tableAt p b id) (a : ℕ) (is : a ≡ attributeOf t) where
-    held : a ≡ attributeOf (fileBytes b id)
-    held = is ∙ ap attributeOf bytes ∙ ap (λ (q : Places). attributeOf (tableAt q b id)) (g .places)
-
-    pub write-protected : a / 4 % 2 ≢ 0 → Gate (fileRemoveTests b id) 10
-    unfolding fileRemoveTests
-    write-protected ne = gate-skip (namedTests b id) _ n 10 h e (gate-fails 10 _ [] (omega arith) (λ z. ne (ap (λ (x : ℕ). x / 4 % 2) held ∙ z)))
-
-    pub removable : a / 4 % 2 ≡ 0 → Gate (fileRemoveTests b id) 0
-    unfolding fileRemoveTests
-    removable z = gate-skip (namedTests b id) _ n 0 h e (gate-passes 10 _ [] 0 (sym (ap (λ (x : ℕ). x / 4 % 2) held) ∙ z) gate-end)
+  removed-fine a e z = gate-passes 8 _ _ 0 parent (gate-passes 9 _ [] 0 (sym (ap deletedBit (attribute-read b p id g t is a e)) ∙ z) gate-end)
 
 -- ---- what a number 0 says of the file
-
-named-active : (b : List ℕ) (id : ℕ) → Gate (namedTests b id) 0 → Parent (viewOf (placesOf b) b) id × (deletedBit (attributeOf (fileBytes b id)) ≡ 0)
-unfolding namedTests
-named-active b id h = let s = gate-head 8 (Parent (viewOf (placesOf b) b) id) _ h in (s .0, gate-head 9 _ [] (s .1) .0)
 
 named-deleted : (b : List ℕ) (id : ℕ) → Gate (removedTests b id) 0 → Parent (viewOf (placesOf b) b) id × (deletedBit (attributeOf (fileBytes b id)) ≡ 1)
 unfolding removedTests
@@ -211,7 +183,7 @@ module _ (b : List ℕ) (id : ℕ) (date : List ℕ) where
     unfolding removeTests
     remove-stops ne = gate-stop (argumentTests b (Date date)) _ n (argument-says b a _ n s g) ne
 
-    pub remove-goes : (r : ℕ) → n ≡ 0 → Gate (fileRemoveTests b id) r → Gate (removeTests b id date) r
+    pub remove-goes : (r : ℕ) → n ≡ 0 → Gate (usableTests 4 b id) r → Gate (removeTests b id date) r
     unfolding removeTests
     remove-goes r e h = gate-skip (argumentTests b (Date date)) _ n r (argument-says b a _ n s g) e h
 
@@ -229,10 +201,10 @@ module _ (b : List ℕ) (id : ℕ) (date : List ℕ) where
     remove-room = omega (arith, argument-good b (Date date) 0 (gate-front (argumentTests b (Date date)) _ (rw e at g)) refl .sized .least)
 
     pub remove-asks : (p : Places) → p ≡ placesOf b → Good b p × (Parent (viewOf p b) id × ((deletedBit (attributeOf (tableAt p b id)) ≡ 0) × (length date ≡ 6)))
-    unfolding removeTests fileRemoveTests
+    unfolding removeTests
     remove-asks p is =
         let front = gate-front (argumentTests b (Date date)) _ (rw e at g) in
-        let f = named-active b id (gate-front (namedTests b id) _ (gate-rest (argumentTests b (Date date)) _ (rw e at g))) in
+        let f = usable-active 4 b id (gate-rest (argumentTests b (Date date)) _ (rw e at g)) in
         rw is (argument-good b (Date date) 0 front refl, (f .0, (f .1, argument-allowed b (Date date) 0 front refl .long)))
 
   pub remove-refused : (n : ℕ) → Gate (removeTests b id date) n → n ≢ 0 → Removed b id date n b

@@ -5,6 +5,8 @@ use mathlib.Core.List.{List, [], _∷_, _++_}
 use Rattle.tables.specs.Sector1.{flagOf}
 use Rattle.tables.specs.Gates.{Test, asks}
 use Rattle.tables.specs.Books.{bookTests}
+use Rattle.requests.specs.declared.answer.Answer.{Answer}
+use Rattle.requests.specs.declared.answer.Answer.the-variants.{Done, Refused}
 
 -- a lent buffer afterwards: new where the number is 0, else as it was
 abbrev pub after : ℕ → List ℕ → List ℕ → List ℕ
@@ -14,3 +16,19 @@ after (suc k) new old = old
 -- numbers 1 to 5, which begin all requests but format, mount and report: 5 "flag 0"
 unfoldable pub useTests : List ℕ → List Test
 useTests b = bookTests b ++ (asks 5 (flagOf b ≢ 0) ∷ [])
+
+-- ---- an answer with one value
+
+-- this paper's number and value
+abbrev pub numberOf : Answer → ℕ
+numberOf (Done n) = 0
+numberOf (Refused n) = n
+
+abbrev pub valueOf : Answer → ℕ
+valueOf (Done n) = n
+valueOf (Refused n) = 0
+
+-- the answer of a number: with its value where it is 0
+abbrev pub answerOf : ℕ → ℕ → Answer
+answerOf zero value = Done value
+answerOf (suc k) value = Refused (suc k)

@@ -9,3 +9,11 @@ pub mod Create
 pub mod Named
 pub mod Grow
 pub mod State
+pub mod Delete
+pub mod Search
+pub mod Listing
+pub mod Locate
+pub mod Body
+pub mod Show
+pub mod Read
+pub mod Write

@@ -1,6 +1,6 @@
 -- Requests that name a file: "8 id outside 1..N, or not a parent", "9 temporarily deleted where active is needed", "10 protected".
 use mathlib.Core.Path.{_≡_}
-use mathlib.Core.List.{List, [], _∷_}
+use mathlib.Core.List.{List, [], _∷_, _++_}
 use Prim.Native.Nat.{ℕ, _/_, _%_}
 use Rattle.tables.specs.Indexes.{tableAt, attributeOf}
 use Rattle.tables.specs.Places.{placesOf}
@@ -19,3 +19,7 @@ namedTests b id = asks 8 (Parent (viewOf (placesOf b) b) id) ∷ asks 9 (deleted
 -- "weight 4 write-protected, 8 read-protected": the weight w is not in the file's attribute
 abbrev pub Unprotected : ℕ → List ℕ → ℕ → Type 0
 Unprotected w b id = attributeOf (fileBytes b id) / w % 2 ≡ 0
+
+-- 8, 9, then 10 where the file is protected by weight w
+unfoldable pub usableTests : ℕ → List ℕ → ℕ → List Test
+usableTests w b id = namedTests b id ++ (asks 10 (Unprotected w b id) ∷ [])

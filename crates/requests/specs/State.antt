@@ -17,7 +17,7 @@ use Rattle.tables.specs.Views.{viewOf, Parent}
 use Rattle.allocation.specs.NewTables.{tablePlace}
 use Rattle.requests.specs.Answers.{after}
 use Rattle.requests.specs.Create.{argumentTests}
-use Rattle.requests.specs.Named.{fileBytes, namedTests, Unprotected}
+use Rattle.requests.specs.Named.{fileBytes, namedTests, usableTests}
 
 -- ---- the bytes
 
@@ -53,22 +53,19 @@ protected p b f w date = putAttribute p b f (protectionOf (attributeOf (tableAt 
 
 -- ---- the promises
 
--- 8, 9, then 10 "if write-protected"
-unfoldable pub fileRemoveTests : List ℕ → ℕ → List Test
-fileRemoveTests b id = namedTests b id ++ (asks 10 (Unprotected 4 b id) ∷ [])
-
--- 1 to 5, 7, then these
+-- 1 to 5, 7, 8, 9, then 10 "if write-protected"
 unfoldable pub removeTests : List ℕ → ℕ → List ℕ → List Test
-removeTests b id date = argumentTests b (Date date) ++ fileRemoveTests b id
+removeTests b id date = argumentTests b (Date date) ++ usableTests 4 b id
 
 pub record Removed (b : List ℕ) (id : ℕ) (date : List ℕ) (r : ℕ) (b' : List ℕ) : Type 0 where
   pub number : Gate (removeTests b id date) r
   pub books : b' ≡ after r (removed (placesOf b) b id date) b
 
--- 1 to 5, 7, 8, then 9: "Recover and actual delete need a deleted file"
+-- 8, then 9: "Recover and actual delete need a deleted file"
 unfoldable pub removedTests : List ℕ → ℕ → List Test
 removedTests b id = asks 8 (Parent (viewOf (placesOf b) b) id) ∷ asks 9 (deletedBit (attributeOf (fileBytes b id)) ≡ 1) ∷ []
 
+-- 1 to 5, 7, then these
 unfoldable pub recoverTests : List ℕ → ℕ → List ℕ → List Test
 recoverTests b id date = argumentTests b (Date date) ++ removedTests b id
 
@@ -82,6 +79,7 @@ pub record ProtectAllowed (w : ℕ) (date : List ℕ) : Type 0 where
   pub most : w ≤ 12
   pub date' : Date date
 
+-- 1 to 5, 7, then 8 and 9
 unfoldable pub protectTests : List ℕ → ℕ → ℕ → List ℕ → List Test
 protectTests b id w date = argumentTests b (ProtectAllowed w date) ++ namedTests b id
 

@@ -66,7 +66,7 @@ fn grow_counts(b: &[u8], p: Places, f: Index, long: u32) -> [u32; 6]
 }
 
 // Numbers 12 and 13, where the file becomes longer.
-fn lack_number(b: &[u8], p: Places, f: Index, long: u32) -> u32
+pub fn lack_number(b: &[u8], p: Places, f: Index, long: u32) -> u32
     requires { ⌜ Good (now b) p ⌝ }
     requires { ⌜ Parent (viewOf p (now b)) (f .0) ⌝ }
     ensures { λ r. ⌜ Gate (lackTests (now (b .entry)) (f .0) long) r ⌝ }
@@ -105,14 +105,14 @@ fn grow_number(b: &[u8], id: u32, long: Amount, date: &[u8]) -> u32
 }
 
 // Adds the blocks and sets the length, if the file becomes longer.
-fn lengthen(b: &mut [u8], id: u32, long: u32, date: &[u8])
+pub fn lengthen(b: &mut [u8], f: Index, long: u32, date: &[u8])
     requires { ⌜ Good (now b) (placesOf (now b)) ⌝ }
-    requires { ⌜ Gate (fileTests (now b) id long) 0 ⌝ }
+    requires { ⌜ Parent (viewOf (placesOf (now b)) (now b)) (f .0) ⌝ }
+    requires { ⌜ Gate (lackTests (now b) (f .0) long) 0 ⌝ }
     requires { ⌜ length (now date) ≡ 6 ⌝ }
-    ensures { λ _. ⌜ now (b .exit) ≡ grownTo (now (b .entry)) id long (now (date .entry)) ⌝ }
+    ensures { λ _. ⌜ now (b .exit) ≡ grownTo (now (b .entry)) (f .0) long (now (date .entry)) ⌝ }
 {
     let p = read_places(b);
-    let f = Index(id);
     if byte_length(table(b, p, f)) >= long {
         return;
     }
@@ -127,6 +127,6 @@ pub fn grow(b: &mut [u8], id: u32, long: Amount, date: &[u8]) -> u32
     if n != 0 {
         return n;
     }
-    lengthen(b, id, number_of(long), date);
+    lengthen(b, Index(id), number_of(long), date);
     0
 }

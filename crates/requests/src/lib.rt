@@ -1,17 +1,26 @@
-// The upper part: one module a request, over what the crate tables promises.
+// The upper part: one module a request, over what the lower part promises.
+pub mod actual_delete;
 pub mod amount;
+pub mod answer;
+pub mod body;
 pub mod create;
 pub mod create_fixed;
 pub mod create_variable;
 pub mod dismount;
 pub mod format;
 pub mod grow;
+pub mod list;
+pub mod locate;
 pub mod mount;
 pub mod named;
+pub mod read;
 pub mod recover;
 pub mod report;
+pub mod search;
 pub mod set_protection;
+pub mod show;
 pub mod space;
 pub mod state;
 pub mod temporary_delete;
 pub mod text;
+pub mod write;

@@ -13,7 +13,7 @@ ghost use Rattle.tables.specs.Books.{Good};
 ghost use Rattle.requests.specs.State.{removedTests, recoverTests, Recovered};
 
 // Numbers 8 and 9: a file that is deleted.
-pub fn removed_number(b: &[u8], p: Places, id: u32) -> u32
+fn removed_number(b: &[u8], p: Places, id: u32) -> u32
     requires { ⌜ Good (now b) p ⌝ }
     ensures { λ r. ⌜ Gate (removedTests (now (b .entry)) id) r ⌝ }
 {
@@ -33,7 +33,8 @@ pub fn removed_number(b: &[u8], p: Places, id: u32) -> u32
     0
 }
 
-fn recover_number(b: &[u8], id: u32, date: &[u8]) -> u32
+// Numbers 1 to 5, 7, and these.
+pub fn recover_number(b: &[u8], id: u32, date: &[u8]) -> u32
     ensures { λ r. ⌜ Gate (recoverTests (now (b .entry)) id (now (date .entry))) r ⌝ }
 {
     let n = argument_number(b, date_valid(date));

@@ -18,7 +18,7 @@ ghost use Rattle.tables.specs.Views.{viewOf, Parent};
 ghost use Rattle.requests.specs.State.{putAttribute, putCounts, removed, recovered, protectionOf, protected};
 
 // The attribute of file f, its change date, and the latest update.
-fn put_attribute(b: &mut [u8], p: Places, f: Index, a: u32, date: &[u8])
+pub fn put_attribute(b: &mut [u8], p: Places, f: Index, a: u32, date: &[u8])
     requires { ⌜ Layout p (length (now b)) ⌝ }
     requires { ⌜ (1 ≤ f .0) × (f .0 ≤ p .indexes) × (a < 65536) × (length (now date) ≡ 6) ⌝ }
     ensures { λ _. ⌜ now (b .exit) ≡ putAttribute p (now (b .entry)) (f .0) a (now (date .entry)) ⌝ }

@@ -3,9 +3,13 @@ use mathlib.Core.Path.{_≡_, refl, sym, _∙_}
 use mathlib.Core.Logic.{_⊎_, inl, inr, _≢_}
 use mathlib.Core.List.{List, [], _∷_, _++_}
 use Prim.Native.Nat.{ℕ}
+use lib.ListN.{length}
 use Rattle.tables.specs.declared.places.Places.{Places}
 use Rattle.tables.specs.Gates.{Test, asks, Gate}
-use Rattle.tables.specs.Books.{Good, bookTests}
+use Rattle.tables.specs.Books.{Sized, Marked, Placed, Good, bookTests}
+use Rattle.tables.specs.Places.{placesOf}
+use Rattle.tables.specs.Lawful.{Lawful}
+use Rattle.tables.proofs.PlaceLaws.{stand-layout}
 
 -- whatever the conditions are, one number is answered
 pub gate-one : (ts : List Test) (r s : ℕ) → Gate ts r → Gate ts s → r ≡ s
@@ -49,7 +53,45 @@ gate-rest [] us g = g
 gate-rest (t ∷ ts) us (inl h) = gate-rest ts us (h .1)
 gate-rest (t ∷ ts) us (inr h) = absurd (h .2 refl)
 
+-- ---- tests that all pass
+
+pub gate-head : (n : ℕ) (P : Type 0) (ts : List Test) → Gate (asks n P ∷ ts) 0 → P × Gate ts 0
+unfolding Gate
+gate-head n P ts (inl h) = h
+gate-head n P ts (inr h) = absurd (h .2 refl)
+
+pub gate-front : (ts us : List Test) → Gate (ts ++ us) 0 → Gate ts 0
+unfolding Gate
+gate-front [] us g = refl
+gate-front (t ∷ ts) us (inl h) = inl (h .0, gate-front ts us (h .1))
+gate-front (t ∷ ts) us (inr h) = inr h
+
+-- a condition may be said in other words
+pub gate-swap : (ts us : List Test) (n : ℕ) (P Q : Type 0) (r : ℕ) → (P → Q) → (Q → P) → Gate (ts ++ (asks n P ∷ us)) r → Gate (ts ++ (asks n Q ∷ us)) r
+unfolding Gate
+gate-swap [] us n P Q r f g (inl h) = inl (f (h .0), h .1)
+gate-swap [] us n P Q r f g (inr h) = inr (λ q. h .0 (g q), h .1, h .2)
+gate-swap (t ∷ ts) us n P Q r f g (inl h) = inl (h .0, gate-swap ts us n P Q r f g (h .1))
+gate-swap (t ∷ ts) us n P Q r f g (inr h) = inr h
+
 -- ---- the books' own tests
+
+-- books that no number refuses are good
+pub zero-good : (b : List ℕ) → Gate (bookTests b) 0 → Good b (placesOf b)
+zero-good b g =
+    let s = gate-head 1 (Sized b) _ g in
+    let m = gate-head 2 (Marked b) _ (s .1) in
+    let p = gate-head 3 (Placed b) _ (m .1) in
+    let l = gate-head 4 (Lawful (placesOf b) b) _ (p .1) in
+    let limits = p .0 .limits in
+    record {
+      places = refl;
+      sized = s .0;
+      marked = m .0;
+      placed = p .0;
+      layout = stand-layout (placesOf b) (length b) (limits .least) (limits .most) (limits .some) (limits .few) (s .0 .most) (p .0 .stand);
+      lawful = l .0;
+    }
 
 pub good-zero : (b : List ℕ) (p : Places) → Good b p → Gate (bookTests b) 0
 unfolding Gate

@@ -6,7 +6,7 @@ ghost use Rattle.field.specs.Says.{Says};
 ghost use Rattle.tables.specs.Names.{Name, NewName, Text, NewText};
 
 // How many bytes stand before the field's first null, its length where there is none.
-fn text_length(f: &[u8]) -> usize
+pub fn text_length(f: &[u8]) -> usize
     ensures { λ r. ⌜ Text (now (f .entry)) r ⌝ }
 {
     let mut i: usize = 0;

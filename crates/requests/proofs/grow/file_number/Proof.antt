@@ -1,4 +1,5 @@
-use Rattle.requests.proofs.GrowLaws.{file-unnamed, named-parent, file-kind, file-lack}
+use Rattle.requests.proofs.GrowLaws.{file-unnamed, file-kind, file-lack}
+use Rattle.requests.proofs.NamedLaws.{named-parent}
 use borrow.Author.Needs.{needs}
 use Rattle.requests.proofs.grow.file_number.Statement.{statement}
 use Rattle.requests.proofs.grow.file_number.Tie as tie

@@ -1,4 +1,4 @@
-use Rattle.requests.proofs.GrowLaws.{named-low, named-high, named-other, named-deleted, named-fine}
+use Rattle.requests.proofs.NamedLaws.{named-low, named-high, named-other, named-deleted, named-fine}
 use borrow.Author.Needs.{needs}
 use Rattle.requests.proofs.named.named_number.Statement.{statement}
 use Rattle.requests.proofs.named.named_number.Tie as tie

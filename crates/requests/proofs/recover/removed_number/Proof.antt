@@ -1,4 +1,4 @@
-use Rattle.requests.proofs.GrowLaws.{named-low, named-high, named-other}
+use Rattle.requests.proofs.NamedLaws.{named-low, named-high, named-other}
 use Rattle.requests.proofs.StateLaws.{removed-eight, removed-active, removed-fine}
 use borrow.Author.Needs.{needs}
 use Rattle.requests.proofs.recover.removed_number.Statement.{statement}

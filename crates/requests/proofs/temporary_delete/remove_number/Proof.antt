@@ -1,5 +1,6 @@
 use Rattle.requests.proofs.StateLaws.{remove-stops, argued-good, remove-goes}
 use Rattle.requests.proofs.CreateLaws.{argument-room}
+use native.Mathlib.Omega.{arith}
 use borrow.Author.Needs.{needs}
 use Rattle.requests.proofs.temporary_delete.remove_number.Statement.{statement}
 use Rattle.requests.proofs.temporary_delete.remove_number.Tie as tie
@@ -12,5 +13,5 @@ remove-number-spec =
     (λ c κs. search needs)
     (λ c. search remove-stops)
     (λ c κs. search argument-room)
-    (λ c κs. search argued-good)
+    (λ c κs. (search argued-good, omega arith))
     (λ c. search remove-goes))

@@ -1,0 +1,120 @@
+-- A file given back: what its pointers lie over is free, and blocks stay whole. R2, R6 and R7. Assumes nothing.
+use mathlib.Core.Path.{_≡_, sym, ap, _∙_}
+use mathlib.Core.Logic.{_⊎_, inl, inr, ⊎-elim}
+use mathlib.Core.List.{List}
+use Prim.Native.Nat.{ℕ, _+_, _-_, _*_, _≤_, _<_}
+use native.Mathlib.Decide.{ℕ-discrete, decLt}
+use native.Mathlib.Omega.{arith}
+use lib.Dec.{eqb}
+use Rattle.field.proofs.Sums.{sum-same}
+use Rattle.tables.specs.Kinds.{zoneOf, firstOf}
+use Rattle.tables.specs.Blocks.{Typed, blockOf, Whole}
+use Rattle.tables.specs.Indexes.{wordOf, slotsOf, startOf, countOf, fileOf}
+use Rattle.tables.specs.Views.{View, onlyIf, tally, overOf, pointersOver}
+use Rattle.tables.specs.Rules.R2.{ZoneBits, R2}
+use Rattle.tables.specs.Rules.R3.{R3}
+use Rattle.tables.specs.Rules.R6.{Run, Shape, R6}
+use Rattle.tables.specs.Rules.R7.{R7}
+use Rattle.tables.proofs.BlockLaws.{block-of, block-in}
+use Rattle.tables.proofs.IndexLaws.{slots-free}
+use Rattle.tables.proofs.PointerLaws.{cov-none, under-some, under-inside}
+use Rattle.allocation.proofs.ChangeLaws.{over-free}
+use Rattle.files.specs.Freed.{gone, Freed}
+use Rattle.files.proofs.FreedTables.{freed-word, tally-gone}
+
+-- the pointers of a table lie over whole blocks
+over-whole : (v : View) (i : ℕ) → Shape v i (v .table i) → (z : ℕ) → z < v .zones → 2 ≤ z → Typed (v .zone z .ztype)
+    → Whole (overOf i (v .table i)) (firstOf z) (blockOf (v .zone z .ztype))
+unfolding overOf
+over-whole v i shape z l lo typed k lk j lj =
+    sum-same (slotsOf i (v .table i)) _ _ (λ n ln. elim (decLt 0 (startOf i (v .table i) n + countOf i (v .table i) n)) [
+      | yes u ↦ shape .used n ln u .whole z l lo typed k lk j lj
+      | no u ↦ (let e : countOf i (v .table i) n ≡ 0 = omega arith in rw e (cov-none _ _ ∙ sym (cov-none _ _)))
+    ])
+
+-- a free table has the right shape
+blank-shape : (v : View) (i : ℕ) (t : List ℕ) → 1 ≤ i → wordOf t ≡ 0 → Shape v i t
+blank-shape v i t lo e = let s = slots-free i t e in record {
+  first = λ j l u. absurd (omega arith);
+  used = λ j l u. absurd (omega arith);
+  one = λ w. absurd (omega arith);
+  header = λ w. absurd (omega arith);
+}
+
+module _ (v v' : View) (f : ℕ) (h : Freed v v' f) where
+  -- ---- R7
+
+  pointers-gone : (s : ℕ) → pointersOver v' s + gone v f s ≡ pointersOver v s
+  unfolding pointersOver gone
+  pointers-gone s = tally-gone v v' f h (λ i t. overOf i t s) (λ j t lo e. over-free j t s e)
+
+  pub freed-R7 : R7 v → R7 v'
+  freed-R7 r s l lo =
+      let l' : s < 1024 * (v .zones - 1) = rw (h .zones) at l in
+      omega (arith, pointers-gone s, h .bit s (omega arith), r s l' lo)
+
+  -- ---- R6: zone entries stay
+
+  run-left : (a c : ℕ) → Run v a c → Run v' a c
+  run-left a c r = record {
+    some = r .some;
+    few = r .few;
+    low = r .low;
+    high = rw (h .zones) (r .high);
+    typed = λ s l lo. rw (h .zone (zoneOf s) (omega arith) (omega (arith, r .high))) (r .typed s l lo);
+    whole = λ z l lo. (let l' : z < v .zones = rw (h .zones) at l in rw (h .zone z (omega arith) (omega arith)) (r .whole z l' lo));
+  }
+
+  pub freed-R6 : R6 v → R6 v'
+  freed-R6 r i l lo =
+      let hi : i ≤ v .indexes = omega (arith, h .indexes) in
+      elim (ℕ-discrete (fileOf i (v .table i)) f) [
+        | yes e ↦ blank-shape v' i (v' .table i) lo (freed-word v v' f h i lo hi e)
+        | no ne ↦ (let s = r i (omega arith) lo in
+            rw (h .there i lo hi ne) (record { first = s .first; used = λ j lj u. run-left _ _ (s .used j lj u); one = s .one; header = s .header }))
+      ]
+
+  module _ (r6 : R6 v) where
+    -- ---- blocks stay whole
+
+    gone-whole : (z : ℕ) → z < v .zones → 2 ≤ z → Typed (v .zone z .ztype) → Whole (gone v f) (firstOf z) (blockOf (v .zone z .ztype))
+    unfolding gone tally
+    gone-whole z l lo typed k lk j lj =
+        sum-same (v .indexes) _ _ (λ n ln. ap (onlyIf (eqb (fileOf (n + 1) (v .table (n + 1))) f)) (over-whole v (n + 1) (r6 (n + 1) (omega arith) (omega arith)) z l lo typed k lk j lj))
+
+    pub freed-blocks : R3 v → (z : ℕ) → z < v' .zones → 2 ≤ z → Typed (v' .zone z .ztype) → Whole (v' .bit) (firstOf z) (blockOf (v' .zone z .ztype))
+    freed-blocks r z l lo =
+        let l' : z < v .zones = rw (h .zones) at l in
+        rw (h .zone z (omega arith) (omega arith)) (λ typed k lk j lj. (let size = blockOf (v .zone z .ztype) in
+        let fits = block-in k size (block-of _ typed) lk in
+        omega (arith, h .bit (firstOf z + k * size + j) (omega arith), h .bit (firstOf z + k * size) (omega arith), gone-whole z l' lo typed k lk j lj, r z l' lo typed .whole k lk j lj)))
+
+    -- ---- R2: no pointer lies over zones 1 and Z
+
+    module _ (r7 : R7 v) (small : (s : ℕ) → v .bit s < 2) where
+      gone-none : (s : ℕ) → (s < 1024) ⊎ (1024 * (v .zones - 1) ≤ s) → gone v f s ≡ 0
+      gone-none s out =
+          elim (decLt 0 (pointersOver v s)) [
+            | yes p ↦ (let u = under-some v s p in let inside = under-inside v r6 r7 small (u .0) (u .1) s (u .2) in absurd (⊎-elim (λ o. omega (arith, inside .0)) (λ o. omega (arith, inside .1)) out))
+            | no n ↦ omega (arith, pointers-gone s)
+          ]
+
+      system-bits : (z : ℕ) → 1 ≤ z → z ≤ v .zones → (z ≡ 1) ⊎ (z ≡ v .zones) → ZoneBits v z 1 → ZoneBits v' z 1
+      system-bits z lo hi at bits k l =
+          let out : (firstOf z + k < 1024) ⊎ (1024 * (v .zones - 1) ≤ firstOf z + k) = ⊎-elim (λ e. inl (omega arith)) (λ e. inr (omega arith)) at in
+          omega (arith, bits k l, h .bit (firstOf z + k) (omega arith), gone-none (firstOf z + k) out)
+
+      clear-bits : (z : ℕ) → 1 ≤ z → z ≤ v .zones → ZoneBits v z 0 → ZoneBits v' z 0
+      clear-bits z lo hi bits k l = omega (arith, bits k l, h .bit (firstOf z + k) (omega arith))
+
+      pub freed-R2 : R2 v → R2 v'
+      freed-R2 r z l lo =
+          let hi : z ≤ v .zones = omega (arith, h .zones) in
+          let e = h .zone z lo hi in
+          let o = r z (omega arith) lo in
+          record {
+            first = λ q. (rw (e, h .zones) (o .first q .0), system-bits z lo hi (inl q) (o .first q .1));
+            last = λ q. (let x = o .last (q ∙ h .zones) in (rw e (x .0), system-bits z lo hi (inr (q ∙ h .zones)) (x .1)));
+            other = λ a b. ⊎-elim (λ u. inl (record { reads = rw e (u .reads); clear = clear-bits z lo hi (u .clear) }))
+                (λ u. inr (record { typed = rw e (u .typed); third = rw e (u .third) })) (o .other a (rw (h .zones) at b));
+          }

@@ -1,0 +1,163 @@
+-- With the zone entries counted again all rules hold. Assumes nothing.
+use mathlib.Core.Path.{_≡_, refl, sym, ap, _∙_}
+use mathlib.Core.Logic.{_⊎_, inl, inr, ⊎-elim}
+use Prim.Native.Nat.{ℕ, _+_, _-_, _*_, _%_, _≤_, _<_}
+use native.Mathlib.Decide.{ℕ-discrete}
+use native.Mathlib.Omega.{arith}
+use borrow.Author.Tests.{eq-eqb, ne-eqb}
+use Rattle.tables.specs.declared.zone.ZoneEntry.{ZoneEntry}
+use Rattle.tables.specs.Kinds.{zoneOf, firstOf}
+use Rattle.tables.specs.Blocks.{blockOf}
+use Rattle.tables.specs.Room.{perZone}
+use Rattle.tables.specs.Views.{View, Parent, overOf, pointersOver, Under}
+use Rattle.tables.specs.Rules.R2.{Reads, ZoneBits, InUse, R2}
+use Rattle.tables.specs.Rules.R3.{R3}
+use Rattle.tables.specs.Rules.R4.{R4}
+use Rattle.tables.specs.Rules.R5.{R5}
+use Rattle.tables.specs.Rules.R6.{Run, R6}
+use Rattle.tables.specs.Rules.R7.{R7}
+use Rattle.tables.specs.Rules.R8.{R8}
+use Rattle.tables.specs.Rules.R9.{R9}
+use Rattle.tables.proofs.BlockLaws.{block-of}
+use Rattle.tables.proofs.PointerLaws.{under-inside, under-set}
+use Rattle.tables.proofs.RoomLaws.{all-clear}
+use Rattle.tables.proofs.SameLaws.{blocks-same}
+use Rattle.allocation.proofs.TakenHeld.{files-R4, files-R5, files-tally, files-sectors, files-R9, files-under}
+use Rattle.files.specs.Release.{clearBlocks, recounted}
+use Rattle.files.specs.Freed.{Uncounted, Recounted}
+use Rattle.files.proofs.FileSame.{file-same}
+
+-- rules R2 to R9
+pub record Rules (v : View) : Type 0 where
+  pub r2 : R2 v
+  pub r3 : R3 v
+  pub r4 : R4 v
+  pub r5 : R5 v
+  pub r6 : R6 v
+  pub r7 : R7 v
+  pub r8 : R8 v
+  pub r9 : R9 v
+
+-- ---- an entry counted again
+
+-- it keeps its type and has n free blocks
+record Stays (e e' : ZoneEntry) (n : ℕ) : Type 0 where
+  ztype : e' .ztype ≡ e .ztype
+  free : e' .free ≡ n
+  third : e' .third ≡ 0
+
+-- it is (0,0,0), where all blocks are free, or stays
+recounted-is : (e : ZoneEntry) (n : ℕ) → e .third ≡ 0 → (Reads (recounted e n) 0 0 0 × (n ≡ perZone (e .ztype))) ⊎ Stays e (recounted e n) n
+unfolding recounted
+recounted-is e n third =
+    elim (ℕ-discrete n (e .free)) [
+      | yes q ↦ inr (rw (eq-eqb n (e .free) q) (record { ztype = refl; free = sym q; third = third }))
+      | no nq ↦ elim (ℕ-discrete n (perZone (e .ztype))) [
+        | yes q ↦ inl (rw (ne-eqb n (e .free) nq, eq-eqb n (perZone (e .ztype)) q) (record { ztype = refl; free = refl; third = refl }), q)
+        | no nr ↦ inr (rw (ne-eqb n (e .free) nq, ne-eqb n (perZone (e .ztype)) nr) (record { ztype = refl; free = refl; third = refl }))
+      ]
+    ]
+
+module _ (v v' : View) (small : (s : ℕ) → v .bit s < 2) (u : Uncounted v) (h : Recounted v v') where
+  -- ---- zones
+
+  -- a zone reads (0,0,0) and is clear, or keeps its type
+  zone-now : (z : ℕ) → 2 ≤ z → z < v .zones
+      → (Reads (v' .zone z) 0 0 0 × ZoneBits v z 0) ⊎ (InUse v z × Stays (v .zone z) (v' .zone z) (clearBlocks v z (v .zone z .ztype)))
+  zone-now z lo hi =
+      ⊎-elim (λ o. inl (rw (h .other z (omega arith) (omega arith) (λ t. omega (arith, t .low, o .reads .ztype))) (o .reads), o .clear)) typed
+      (u .r2 z (omega arith) (omega arith) .other lo hi)
+    where
+      typed : InUse v z
+          → (Reads (v' .zone z) 0 0 0 × ZoneBits v z 0) ⊎ (InUse v z × Stays (v .zone z) (v' .zone z) (clearBlocks v z (v .zone z .ztype)))
+      typed o =
+          let t = v .zone z .ztype in
+          rw (h .typed z hi lo (o .typed)) (⊎-elim
+          (λ r. inl (r .0, all-clear (v .bit) (firstOf z) (blockOf t) (block-of t (o .typed)) (record { whole = u .whole z hi lo (o .typed); number = r .1 })))
+          (λ s. inr (o, s)) (recounted-is (v .zone z) (clearBlocks v z t) (o .third)))
+
+  bits-now : (z w : ℕ) → 1 ≤ z → z ≤ v .zones → ZoneBits v z w → ZoneBits v' z w
+  bits-now z w lo hi all k l = h .bit (firstOf z + k) (omega arith) ∙ all k l
+
+  now-R2 : R2 v'
+  now-R2 z l lo =
+      let hi : z ≤ v .zones = omega (arith, h .zones) in
+      let o = u .r2 z (omega arith) lo in
+      record {
+        first = λ e. (rw (h .zones, e, h .first) (rw e at (o .first e .0)), bits-now z 1 lo hi (o .first e .1));
+        last = λ e. (let q = e ∙ h .zones in (rw (q, h .last) (rw q at (o .last q .0)), bits-now z 1 lo hi (o .last q .1)));
+        other = λ a c. ⊎-elim (λ r. inl (record { reads = r .0; clear = bits-now z 0 lo hi (r .1) }))
+            (λ r. inr (record { typed = rw (r .1 .ztype) (r .0 .typed); third = r .1 .third })) (zone-now z a (rw (h .zones) at c));
+      }
+
+  now-R3 : R3 v'
+  now-R3 z l lo t =
+      let l' : z < v .zones = rw (h .zones) at l in
+      ⊎-elim (λ r. absurd (omega (arith, t .low, r .0 .ztype)))
+      (λ r. (let y = r .0 .typed in rw (r .1 .ztype) (blocks-same (v .bit) (v' .bit) (firstOf z) (blockOf (v .zone z .ztype)) (block-of _ y) (λ k lk. h .bit _ (omega arith))
+      (v' .zone z .free) (record { whole = u .whole z l' lo y; number = sym (r .1 .free) }))))
+      (zone-now z lo l')
+
+  -- ---- runs
+
+  type-stays : (s : ℕ) → s < 1024 * (v .zones - 1) → 1024 ≤ s → v .bit s ≡ 1 → v' .zone (zoneOf s) .ztype ≡ v .zone (zoneOf s) .ztype
+  type-stays s l lo set =
+      let e : firstOf (zoneOf s) + s % 1024 ≡ s = omega arith in
+      ⊎-elim (λ r. absurd (omega (arith, set, ap (v .bit) e, r .1 (s % 1024) (omega arith)))) (λ r. r .1 .ztype) (zone-now (zoneOf s) (omega arith) (omega arith))
+
+  run-stays : (a c : ℕ) → Run v a c → ((s : ℕ) → a ≤ s → s < a + c → v .bit s ≡ 1) → Run v' a c
+  run-stays a c r set = record {
+    some = r .some;
+    few = r .few;
+    low = r .low;
+    high = rw (h .zones) (r .high);
+    typed = λ s l lo. rw (type-stays s (omega (arith, r .high)) (omega (arith, r .low)) (set s lo l)) (r .typed s l lo);
+    whole = λ z l lo t. (let l' : z < v .zones = rw (h .zones) at l in
+        ⊎-elim (λ o. absurd (omega (arith, t .low, o .0 .ztype))) (λ o. rw (o .1 .ztype) (r .whole z l' lo (o .0 .typed))) (zone-now z lo l'));
+  }
+
+  set-under : (i j s : ℕ) → Under v i j s → v .bit s ≡ 1
+  set-under i j s = under-set v (u .r6) (u .r7) small s i j
+
+  now-R6 : R6 v'
+  now-R6 i l lo =
+      let hi : i ≤ v .indexes = omega (arith, h .files .indexes) in
+      let o = u .r6 i (omega arith) lo in
+      rw (h .files .table i lo hi) (record {
+        first = o .first;
+        used = λ j l w. run-stays _ _ (o .used j l w) (λ s a c. set-under i j s (record { low = lo; high = hi; slot = l; from = a; to = c }));
+        one = o .one;
+        header = o .header;
+      })
+
+  now-R7 : R7 v'
+  unfolding pointersOver
+  now-R7 s l lo =
+      let l' : s < 1024 * (v .zones - 1) = rw (h .zones) at l in
+      files-tally (h .files) (λ i t. overOf i t s) ∙ u .r7 s l' lo ∙ sym (h .bit s (omega arith))
+
+  -- ---- files
+
+  under-type : (i j s : ℕ) → Under v i j s → v' .zone (zoneOf s) .ztype ≡ v .zone (zoneOf s) .ztype
+  under-type i j s w = let o = under-inside v (u .r6) (u .r7) small i j s w in type-stays s (o .1) (o .0) (set-under i j s w)
+
+  now-R8 : R8 v'
+  now-R8 p l lo word =
+      let hi : p ≤ v .indexes = omega (arith, h .files .indexes) in
+      let e = h .files .table p lo hi in
+      let o : Parent v p = record { low = lo; high = hi; word = rw e at word } in
+      file-same v v' (u .r6) under-type p o e
+      (λ i j s of w. (let y = files-under (h .files) i j s w in (rw (h .files .table i (y .low) (y .high)) at of, y)))
+      (files-sectors (h .files) p) (u .r8 p (omega arith) lo (o .word))
+
+  pub recounted-rules : Rules v'
+  recounted-rules = record {
+    r2 = now-R2;
+    r3 = now-R3;
+    r4 = files-R4 (h .files) (u .r4);
+    r5 = files-R5 (h .files) (u .r5);
+    r6 = now-R6;
+    r7 = now-R7;
+    r8 = now-R8;
+    r9 = files-R9 (h .files) (u .r9);
+  }

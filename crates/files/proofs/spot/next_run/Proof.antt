@@ -1,0 +1,16 @@
+use native.Mathlib.Omega.{arith}
+use Rattle.files.proofs.SeekLaws.{slot-few, next-slot, next-table}
+use borrow.Author.Needs.{needs}
+use Rattle.files.proofs.spot.next_run.Statement.{statement}
+use Rattle.files.proofs.spot.next_run.Tie as tie
+
+pub next-run-spec : {M : Type 1} → statement M
+next-run-spec =
+    tie.close
+    (tie.spec
+    (λ c κs. search needs)
+    (λ c. omega (arith, slot-few _ _ (c .before .before .before .before .before .pre .1)))
+    (λ c. search next-slot)
+    (λ c κs. search needs)
+    (λ c κs. search needs)
+    (λ c. search next-table))

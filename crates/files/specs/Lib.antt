@@ -1,0 +1,5 @@
+pub mod Spots
+pub mod Moves
+pub mod Release
+pub mod Freed
+pub mod Unchanged

@@ -1,0 +1,118 @@
+// Sectors moved between a buffer and the body, one at a time, along the file's pointers.
+use crate::spot::onward;
+use crate::spot::sector_of;
+use crate::spot::seek;
+use field::parts::copy;
+use tables::kinds::Index;
+use tables::kinds::Sector;
+use tables::places::Places;
+ghost use mathlib.Core.Path.{_≡_};
+ghost use Prim.Native.Nat.{_-_, _*_, _≤_, _<_};
+ghost use lib.ListN.{length};
+ghost use Rattle.tables.specs.Places.{Layout};
+ghost use Rattle.tables.specs.Lawful.{Lawful};
+ghost use Rattle.tables.specs.Views.{viewOf};
+ghost use Rattle.files.specs.Moves.{exchanged, moved, bodyPlace, sectorBytes, filled, fetched, Movable};
+
+// Byte pairs exchanged.
+fn exchange_sector(dst: &mut [u8], src: &[u8])
+    requires { ⌜ (length (now dst) ≡ 1024) × (length (now src) ≡ 1024) ⌝ }
+    ensures { λ _. ⌜ now (dst .exit) ≡ exchanged (now (src .entry)) ⌝ }
+{
+    let mut j: usize = 0;
+    while j < 1024 {
+        dst[j] = src[j + 1];
+        dst[j + 1] = src[j];
+        j += 2;
+    }
+}
+
+// The copy leaf: it sees one sector of each side.
+fn move_sector(dst: &mut [u8], src: &[u8], exchange: bool)
+    requires { ⌜ (length (now dst) ≡ 1024) × (length (now src) ≡ 1024) ⌝ }
+    ensures { λ _. ⌜ now (dst .exit) ≡ moved exchange (now (src .entry)) ⌝ }
+{
+    if exchange {
+        exchange_sector(dst, src);
+        return;
+    }
+    copy(dst, 0, src);
+}
+
+// Where the sector begins in the body, which has no room for zone 1.
+pub fn body_place(s: Sector) -> usize
+    requires { ⌜ 1024 ≤ s .0 ⌝ }
+    ensures { λ r. ⌜ r ≡ bodyPlace (s .0) ⌝ }
+{
+    1024 * (s.0 as usize - 1024)
+}
+
+// The sector as it lies in the body.
+pub fn body_sector(body: &[u8], s: Sector) -> &[u8]
+    requires { ⌜ (1024 ≤ s .0) × (1024 * (s .0 - 1023) ≤ length (now body)) ⌝ }
+    ensures { λ r. ⌜ (now r ≡ sectorBytes (now (body .entry)) (s .0)) × (length (now r) ≡ 1024) ⌝ }
+{
+    let a = body_place(s);
+    let e = a + 1024;
+    &body[a..e]
+}
+
+// Writes n sectors of the input to the body, from the k-th sector of file f on.
+pub fn write_sectors(
+    b: &[u8],
+    p: Places,
+    f: Index,
+    k: u32,
+    n: u32,
+    exchange: bool,
+    input: &[u8],
+    body: &mut [u8],
+)
+    requires { ⌜ Layout p (length (now b)) ⌝ }
+    requires { ⌜ Lawful p (now b) ⌝ }
+    requires { ⌜ Movable (viewOf p (now b)) (f .0) k n (length (now input)) (length (now body)) ⌝ }
+    ensures { λ _. ⌜ now (body .exit) ≡ filled (viewOf p (now (b .entry))) (f .0) k exchange (now (input .entry)) (now (body .entry)) n ⌝ }
+{
+    let mut c = seek(b, p, f, k);
+    let mut i: u32 = 0;
+    while i < n {
+        let a = body_place(sector_of(b, p, c));
+        let e = a + 1024;
+        let from = 1024 * (i as usize);
+        let to = from + 1024;
+        move_sector(&mut body[a..e], &input[from..to], exchange);
+        c = onward(b, p, c);
+        i += 1;
+    }
+}
+
+// Reads n sectors from the body to the output, from the k-th sector of file f on.
+pub fn read_sectors(
+    b: &[u8],
+    p: Places,
+    f: Index,
+    k: u32,
+    n: u32,
+    exchange: bool,
+    body: &[u8],
+    out: &mut [u8],
+)
+    requires { ⌜ Layout p (length (now b)) ⌝ }
+    requires { ⌜ Lawful p (now b) ⌝ }
+    requires { ⌜ Movable (viewOf p (now b)) (f .0) k n (length (now out)) (length (now body)) ⌝ }
+    ensures { λ _. ⌜ now (out .exit) ≡ fetched (viewOf p (now (b .entry))) (f .0) k exchange (now (body .entry)) (now (out .entry)) n ⌝ }
+{
+    let mut c = seek(b, p, f, k);
+    let mut i: u32 = 0;
+    while i < n {
+        let from = 1024 * (i as usize);
+        let to = from + 1024;
+        move_sector(
+            &mut out[from..to],
+            body_sector(body, sector_of(b, p, c)),
+            exchange,
+        );
+        c = onward(b, p, c);
+        i += 1;
+    }
+}

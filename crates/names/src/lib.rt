@@ -1,0 +1,2 @@
+// Patterns, and the names that match them. Knows bytes only.
+pub mod pattern;

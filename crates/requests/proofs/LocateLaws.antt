@@ -1,0 +1,186 @@
+-- Locate and show: each way out, and that each promise allows one result. Assumes nothing.
+use mathlib.Core.Path.{_≡_, refl, sym, ap, _∙_}
+use mathlib.Core.Logic.{_≢_}
+use mathlib.Core.List.{List, [], _∷_, _++_}
+use Prim.Native.Nat.{ℕ, zero, suc, _+_, _-_, _*_, _≤_, _<_}
+use native.Mathlib.Nat.{add-sub-cancel-left}
+use native.Mathlib.Omega.{arith}
+use lib.ListN.{length, take, drop}
+use Rattle.tables.specs.declared.places.Places.{Places}
+use Rattle.tables.specs.declared.kinds.Sector.{Sector}
+use Rattle.tables.specs.Places.{placesOf, Layout}
+use Rattle.tables.specs.Gates.{Test, asks, Gate}
+use Rattle.tables.specs.Books.{Good, bookTests}
+use Rattle.tables.specs.Rules.R8.{fileSectors}
+use Rattle.tables.specs.Views.{viewOf, Parent}
+use Rattle.tables.proofs.GateLaws.{gate-one, gate-fails, gate-passes, gate-end, gate-stop, gate-skip, gate-rest, gate-head, gate-front, zero-good}
+use Rattle.files.specs.declared.spot.Spot.{Spot}
+use Rattle.files.specs.Spots.{startAt, spotOf, kthSector, OnSector}
+use Rattle.files.specs.Moves.{bodyPlace}
+use Rattle.files.proofs.SpotLaws.{spot-on, kth-inside}
+use Rattle.requests.specs.declared.locate.Located.{Located}
+use Rattle.requests.specs.declared.locate.Located.the-variants.{At, Refused}
+use Rattle.requests.specs.declared.show.Part.{Part}
+use Rattle.requests.specs.Answers.{useTests}
+use Rattle.requests.specs.Named.{namedTests}
+use Rattle.requests.specs.Body.{BodySized, bodyTests}
+use Rattle.requests.specs.Locate.{HasSector, sectorOf, locateTests, numberOf, locatedAs, Locates}
+use Rattle.requests.specs.Show.{showTests, partOf, ShownAt, bytesOf, Shown}
+use Rattle.requests.proofs.RequestLaws.{good-room}
+use Rattle.requests.proofs.NamedLaws.{named-active, usable-active, body-usable}
+
+-- ---- 1 to 5
+
+module _ (b : List ℕ) (n : ℕ) (h : Gate (useTests b) n) (e : n ≡ 0) where
+  pub use-good : (p : Places) → p ≡ placesOf b → Good b p
+  unfolding useTests
+  use-good p is = rw is (zero-good b (gate-front (bookTests b) _ (rw e at h)))
+
+  pub use-room : 2048 ≤ length b
+  use-room = good-room b (placesOf b) (use-good (placesOf b) refl)
+
+  pub use-layout : (p : Places) → p ≡ placesOf b → Layout p (length b)
+  use-layout p is = use-good p is .layout
+
+-- ---- tests between those and 14
+
+module _ (b : List ℕ) (id k : ℕ) (ts : List Test) where
+  abbrev pub sectorTests : List Test
+  sectorTests = useTests b ++ (ts ++ (asks 14 (HasSector b id k) ∷ []))
+
+  module _ (n : ℕ) (h : Gate (useTests b) n) where
+    pub sector-stops : n ≢ 0 → Gate sectorTests n
+    sector-stops ne = gate-stop (useTests b) _ n h ne
+
+    module _ (e : n ≡ 0) (m : ℕ) (q : Gate ts m) where
+      pub sector-refused : m ≢ 0 → Gate sectorTests m
+      sector-refused ne = gate-skip (useTests b) _ n m h e (gate-stop ts _ m q ne)
+
+      module _ (z : m ≡ 0) (p : Places) (is : p ≡ placesOf b) (s : ℕ) (has : s ≡ fileSectors (viewOf p b) id) where
+        count : s ≡ fileSectors (viewOf (placesOf b) b) id
+        count = has ∙ ap (λ (x : Places). fileSectors (viewOf x b) id) is
+
+        pub sector-past : s ≤ k → Gate sectorTests 14
+        sector-past le = gate-skip (useTests b) _ n 14 h e (gate-skip ts _ m 14 q z (gate-fails 14 _ [] (omega arith) (λ lt. omega (arith, count))))
+
+        pub sector-fine : k < s → Gate sectorTests 0
+        sector-fine lt = gate-skip (useTests b) _ n 0 h e (gate-skip ts _ m 0 q z (gate-passes 14 _ [] 0 (omega (arith, count)) gate-end))
+
+  -- where no number applies
+  module _ (h : Gate sectorTests 0) where
+    sector-good : Good b (placesOf b)
+    sector-good = use-good b 0 (gate-front (useTests b) _ h) refl (placesOf b) refl
+
+    sector-file : Gate ts 0
+    sector-file = gate-front ts _ (gate-rest (useTests b) _ h)
+
+    sector-has : HasSector b id k
+    sector-has = gate-head 14 _ [] (gate-rest ts _ (gate-rest (useTests b) _ h)) .0
+
+-- ---- the k-th sector
+
+module _ (b : List ℕ) (p : Places) (f k : ℕ) (g : Good b p) (parent : Parent (viewOf p b) f) (has : k < fileSectors (viewOf p b) f) where
+  module _ (c : Spot) (at : c ≡ spotOf (viewOf p b) f k) where
+    pub kth-on : OnSector (viewOf p b) c
+    kth-on = rw at (spot-on p b (g .layout) (g .lawful) f parent k has)
+
+    pub kth-found : (s : ℕ) → s ≡ startAt (viewOf p b) c + c .off → (s ≡ kthSector (viewOf p b) f k) × (1024 ≤ s) × (s < 1024 * (p .zones - 1))
+    unfolding kthSector
+    kth-found s e =
+        let is : s ≡ kthSector (viewOf p b) f k = e ∙ ap (λ (d : Spot). startAt (viewOf p b) d + d .off) at in
+        let in' = kth-inside p b (g .layout) (g .lawful) f parent k has in
+        (is, omega (arith, in' .0), omega (arith, in' .1))
+
+-- ---- locate
+
+pub locate-refused : (b : List ℕ) (id k n : ℕ) → Gate (locateTests b id k) n → n ≢ 0 → Locates b id k (Refused n)
+locate-refused b id k zero h ne = absurd (ne refl)
+locate-refused b id k (suc n) h ne = record { number = h; answer = refl }
+
+module _ (b : List ℕ) (id k n : ℕ) (h : Gate (locateTests b id k) n) (e : n ≡ 0) where
+  pub locate-room : 2048 ≤ length b
+  unfolding locateTests
+  locate-room = good-room b (placesOf b) (sector-good b id k (namedTests b id) (rw e at h))
+
+  module _ (p : Places) (is : p ≡ placesOf b) where
+    pub locate-asks : Good b p × (Parent (viewOf p b) id × (k < fileSectors (viewOf p b) id))
+    unfolding locateTests
+    locate-asks =
+        let q : Gate (locateTests b id k) 0 = rw e at h in
+        rw is (sector-good b id k (namedTests b id) q, (named-active b id (sector-file b id k (namedTests b id) q) .0, sector-has b id k (namedTests b id) q))
+
+    pub locate-done : (s : Sector) → s .0 ≡ kthSector (viewOf p b) id k → Locates b id k (At s)
+    locate-done s at = record { number = rw e at h; answer = ap (λ (x : ℕ). At (record { 0 = x })) (at ∙ ap (λ (x : Places). kthSector (viewOf x b) id k) is) }
+
+-- ---- show
+
+pub show-refused : (b body : List ℕ) (id k n : ℕ) → Gate (showTests b body id k) n → n ≢ 0 → ShownAt b body id k (record { at = 0; len = 0 })
+show-refused b body id k zero h ne = absurd (ne refl)
+show-refused b body id k (suc n) h ne = record { number = suc n; gate = h; part = refl }
+
+module _ (b body : List ℕ) (id k : ℕ) where
+  module _ (h : Gate (showTests b body id k) 0) where
+    show-sized : BodySized b body
+    unfolding showTests
+    show-sized = body-usable 8 b body id (sector-file b id k (bodyTests 8 b body id) h) .0
+
+    show-file : Good b (placesOf b) × (Parent (viewOf (placesOf b) b) id × HasSector b id k)
+    unfolding showTests
+    show-file =
+        let ts = bodyTests 8 b body id in
+        (sector-good b id k ts h, (usable-active 8 b id (body-usable 8 b body id (sector-file b id k ts h) .1) .0, sector-has b id k ts h))
+
+    -- its sector lies in the body
+    show-inside : bodyPlace (sectorOf b id k) + 1024 ≤ length body
+    show-inside =
+        let g = show-file .0 in
+        let s = kth-inside (placesOf b) b (g .layout) (g .lawful) id (show-file .1 .0) k (show-file .1 .1) in
+        omega (arith, s .0, s .1, show-sized, g .layout .least)
+
+  module _ (n : ℕ) (h : Gate (showTests b body id k) n) (e : n ≡ 0) where
+    pub show-room : 2048 ≤ length b
+    show-room = good-room b (placesOf b) (show-file (rw e at h) .0)
+
+    module _ (p : Places) (is : p ≡ placesOf b) where
+      pub show-asks : Good b p × (Parent (viewOf p b) id × (k < fileSectors (viewOf p b) id))
+      show-asks = rw is (show-file (rw e at h))
+
+      pub show-placed : (s a : ℕ) → s ≡ kthSector (viewOf p b) id k → a ≡ bodyPlace s → ShownAt b body id k (record { at = a; len = 1024 })
+      show-placed s a at place = record {
+        number = 0;
+        gate = rw e at h;
+        part = ap (λ (x : ℕ). record { at = x; len = 1024 }) (place ∙ ap bodyPlace (at ∙ ap (λ (x : Places). kthSector (viewOf x b) id k) is));
+      }
+
+  -- the part lies in the body
+  part-inside : (n : ℕ) (r : Part) → Gate (showTests b body id k) n → r ≡ partOf n (sectorOf b id k) → r .at + r .len ≤ length body
+  part-inside zero r h e = rw e (show-inside h)
+  part-inside (suc n) r h e = rw e (omega arith)
+
+  part-bytes : (n : ℕ) (r : Part) → r ≡ partOf n (sectorOf b id k) → take (r .len) (drop (r .at) body) ≡ bytesOf n body (sectorOf b id k)
+  part-bytes zero r e = rw e refl
+  part-bytes (suc n) r e = rw e refl
+
+  module _ (r : Part) (h : ShownAt b body id k r) where
+    pub shown-inside : r .at + r .len ≤ length body
+    shown-inside = part-inside (h .number) r (h .gate) (h .part)
+
+    pub shown-part : Shown b body id k (take (r .at + r .len - r .at) (drop (r .at) body))
+    shown-part = record { number = h .number; gate = h .gate; bytes = rw add-sub-cancel-left (part-bytes (h .number) r (h .part)) }
+
+-- ---- one result
+
+pub located-one : (b : List ℕ) (id k : ℕ) (r s : Located) → Locates b id k r → Locates b id k s → r ≡ s
+located-one b id k r s h l =
+    let e = gate-one (locateTests b id k) (numberOf r) (numberOf s) (h .number) (l .number) in
+    h .answer ∙ ap (λ (n : ℕ). locatedAs n (sectorOf b id k)) e ∙ sym (l .answer)
+
+pub shown-at-one : (b body : List ℕ) (id k : ℕ) (r s : Part) → ShownAt b body id k r → ShownAt b body id k s → r ≡ s
+shown-at-one b body id k r s h l =
+    let e = gate-one (showTests b body id k) (h .number) (l .number) (h .gate) (l .gate) in
+    h .part ∙ ap (λ (n : ℕ). partOf n (sectorOf b id k)) e ∙ sym (l .part)
+
+pub shown-one : (b body : List ℕ) (id k : ℕ) (x y : List ℕ) → Shown b body id k x → Shown b body id k y → x ≡ y
+shown-one b body id k x y h l =
+    let e = gate-one (showTests b body id k) (h .number) (l .number) (h .gate) (l .gate) in
+    h .bytes ∙ ap (λ (n : ℕ). bytesOf n body (sectorOf b id k)) e ∙ sym (l .bytes)

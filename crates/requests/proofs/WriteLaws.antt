@@ -1,0 +1,362 @@
+-- Write: each way out, what its parts ask, the books once the file has grown, and that the promise allows one result. Assumes nothing.
+use mathlib.Core.Path.{_≡_, refl, sym, ap, ap₂, _∙_}
+use mathlib.Core.Logic.{_≢_, inl, inr}
+use mathlib.Core.Bool.{Bool, not, true, false}
+use mathlib.Core.List.{List}
+use Prim.Native.Nat.{ℕ, zero, suc, _+_, _-_, _*_, _/_, _%_, _≤_, _<_}
+use native.Mathlib.Decide.{decLt}
+use native.Mathlib.Omega.{arith}
+use lib.Dec.{leb}
+use lib.ListN.{getD, length}
+use borrow.Author.Tests.{eq-eqb, ne-eqb, lt-ltb, le-ltb}
+use Rattle.field.specs.Says.{Says}
+use Rattle.field.specs.Numbers.{u32At, putU32}
+use Rattle.field.specs.Kept.{Kept}
+use Rattle.field.specs.Parts.{over}
+use Rattle.field.proofs.NumberLaws.{u32-kept, kept-putU32, u32-put-same}
+use Rattle.field.proofs.PartLaws.{kept-over}
+use Rattle.field.proofs.Tests.{passed, refused, says-map}
+use Rattle.tables.specs.declared.places.Places.{Places}
+use Rattle.tables.specs.Books.{Good}
+use Rattle.tables.specs.Dates.{Date}
+use Rattle.tables.specs.Gates.{Gate}
+use Rattle.tables.specs.Indexes.{tableAt, wordOf, lengthOf, attributeOf}
+use Rattle.tables.specs.Places.{placesOf, Layout}
+use Rattle.tables.specs.Rules.R8.{variableBit}
+use Rattle.tables.specs.Views.{viewOf, Parent}
+use Rattle.tables.proofs.FrameLaws.{table-kept}
+use Rattle.tables.proofs.GateLaws.{gate-one, gate-fails, gate-passes, gate-stop, gate-skip, gate-rest, gate-head, gate-front}
+use Rattle.tables.proofs.IndexLaws.{length-table}
+use Rattle.allocation.specs.Choice.{inOrder, inTurn}
+use Rattle.allocation.specs.Files.{putLength, grown}
+use Rattle.allocation.specs.Growth.{Growth, addBlock}
+use Rattle.allocation.specs.Last.{cursorOf}
+use Rattle.allocation.specs.Lengthened.{Lengthened}
+use Rattle.allocation.specs.NewTables.{tablePlace}
+use Rattle.allocation.proofs.AddHeld.{adds-held}
+use Rattle.allocation.proofs.FileLaws.{ready-grow}
+use Rattle.allocation.proofs.GrownLawful.{cursor-ends}
+use Rattle.allocation.proofs.MadeHeld.{lawful-held}
+use Rattle.allocation.proofs.TableLaws.{table-put32, table-over}
+use Rattle.files.specs.Moves.{filled}
+use Rattle.requests.specs.declared.amount.Amount.{Amount}
+use Rattle.requests.specs.declared.answer.Answer.{Answer}
+use Rattle.requests.specs.declared.answer.Answer.the-variants.{Done, Refused}
+use Rattle.requests.specs.Answers.{numberOf}
+use Rattle.requests.specs.Body.{BodySized, bodyTests}
+use Rattle.requests.specs.Create.{argumentTests}
+use Rattle.requests.specs.Format.{sizeOf}
+use Rattle.requests.specs.Grow.{growCounts, lackTests, grownTo}
+use Rattle.requests.specs.Named.{fileBytes}
+use Rattle.requests.specs.Read.{wholeSectors, endOf, MoveAllowed}
+use Rattle.requests.specs.State.{putAttribute}
+use Rattle.requests.specs.Write.{WriteAllowed, Within, askedLength, moveTests, writeTests, settle, writtenBooks, writtenBody, Wrote, Writes}
+use Rattle.requests.proofs.RequestLaws.{after-one, answers-one}
+use Rattle.requests.proofs.CreateLaws.{argument-says, argument-allowed, argument-good}
+use Rattle.requests.proofs.NamedLaws.{attribute-read, body-usable}
+use Rattle.requests.proofs.FixedLaws.{le-says}
+use Rattle.requests.proofs.GrowLaws.{lack-provided, not-below}
+use Rattle.requests.proofs.ReadLaws.{body-parent}
+
+-- ---- arguments
+
+module _ (position long : Amount) (room : ℕ) (date : List ℕ) (r : Bool) (s : Says r (MoveAllowed position long room)) where
+  pub write-disallowed : not r ≡ true → WriteAllowed position long room date → ⊥
+  write-disallowed h a = refused r s h (a .move)
+
+  pub write-says : (q : Bool) → not r ≡ false → Says q (Date date) → Says q (WriteAllowed position long room date)
+  write-says q h d = says-map q (λ x. record { move = passed r s h; date' = x }) (λ a. a .date') d
+
+-- ---- where may be written, and what length that asks for
+
+module _ (b : List ℕ) (p : Places) (id at n : ℕ) (g : Good b p) (t : List ℕ) (bytes : t ≡ tableAt p b id) (a : ℕ) (is : a ≡ attributeOf t) where
+  variable : variableBit a ≡ variableBit (attributeOf (fileBytes b id))
+  variable = ap variableBit (attribute-read b p id g t bytes a is)
+
+  module _ (end : ℕ) (ends : end ≡ endOf b id) (le : at ≤ end) where
+    pub within-variable : a / 16 % 2 ≢ 0 → Within b id at n
+    within-variable ne = record { position = rw ends at le; fixed = λ z. absurd (ne (variable ∙ z)) }
+
+    pub within-fixed : a / 16 % 2 ≡ 0 → Says (leb (at + n) end) (Within b id at n)
+    within-fixed z =
+        le-says (Within b id at n) (at + n) end (λ l. record { position = rw ends at le; fixed = λ _. rw ends at l }) (λ w. rw ends (w .fixed (sym variable ∙ z)))
+
+  pub asked-fixed : n ≢ 0 → a / 16 % 2 ≢ 1 → 0 ≡ askedLength b id at n
+  unfolding askedLength
+  asked-fixed ne nv = rw (ne-eqb n 0 ne, ne-eqb (variableBit (attributeOf (fileBytes b id))) 1 (λ z. nv (variable ∙ z)))
+
+  pub asked-variable : n ≢ 0 → a / 16 % 2 ≡ 1 → at + n ≡ askedLength b id at n
+  unfolding askedLength
+  asked-variable ne one = rw (ne-eqb n 0 ne, eq-eqb (variableBit (attributeOf (fileBytes b id))) 1 (sym variable ∙ one))
+
+pub asked-none : (b : List ℕ) (id at n : ℕ) → n ≡ 0 → 0 ≡ askedLength b id at n
+unfolding askedLength
+asked-none b id at n e = rw (eq-eqb n 0 e)
+
+-- ---- the numbers
+
+module _ (b body : List ℕ) (id at n m : ℕ) (h : Gate (bodyTests 4 b body id) m) where
+  pub move-unusable : m ≢ 0 → Gate (moveTests b body id at n) m
+  unfolding moveTests
+  move-unusable ne = gate-stop (bodyTests 4 b body id) _ m h ne
+
+  module _ (e : m ≡ 0) (r : Bool) (s : Says r (Within b id at n)) where
+    pub move-past : not r ≡ true → Gate (moveTests b body id at n) 14
+    unfolding moveTests
+    move-past out = gate-skip (bodyTests 4 b body id) _ m 14 h e (gate-fails 14 _ _ (omega arith) (refused r s out))
+
+    pub move-lack : (x k : ℕ) → not r ≡ false → x ≡ askedLength b id at n → Gate (lackTests b id x) k → Gate (moveTests b body id at n) k
+    unfolding moveTests
+    move-lack x k in' is q = gate-skip (bodyTests 4 b body id) _ m k h e (gate-passes 14 _ _ k (passed r s in') (rw is at q))
+
+module _ (b body : List ℕ) (id : ℕ) (position long : Amount) (room : ℕ) (date : List ℕ) where
+  module _ (a : Bool) (n : ℕ) (s : Says a (WriteAllowed position long room date)) (g : Gate (argumentTests b (a ≡ true)) n) where
+    pub write-stops : n ≢ 0 → Gate (writeTests b body id position long room date) n
+    unfolding writeTests
+    write-stops ne = gate-stop (argumentTests b (WriteAllowed position long room date)) _ n (argument-says b a _ n s g) ne
+
+    module _ (e : n ≡ 0) (x y w : ℕ) (place : x ≡ sizeOf position) (wanted : y ≡ sizeOf long) (whole : w ≡ wholeSectors y) where
+      moves : MoveAllowed position long room
+      moves = argument-allowed b (WriteAllowed position long room date) n (argument-says b a _ n s g) e .move
+
+      pub write-early : x ≤ 2147483647
+      write-early = rw place (not-below position (moves .position'))
+
+      pub write-short : w ≤ 2147483647
+      write-short = omega (arith, not-below long (moves .long'))
+
+      pub write-goes : (r : ℕ) → Gate (moveTests b body id x w) r → Gate (writeTests b body id position long room date) r
+      unfolding writeTests
+      write-goes r h = gate-skip (argumentTests b (WriteAllowed position long room date)) _ n r (argument-says b a _ n s g) e (rw (whole, wanted, place) at h)
+
+  -- what a number 0 says
+  module _ (m : ℕ) (h : Gate (writeTests b body id position long room date) m) (e : m ≡ 0) where
+    front : Gate (argumentTests b (WriteAllowed position long room date)) 0
+    unfolding writeTests
+    front = gate-front (argumentTests b (WriteAllowed position long room date)) _ (rw e at h)
+
+    rest : Gate (moveTests b body id (sizeOf position) (wholeSectors (sizeOf long))) 0
+    unfolding writeTests
+    rest = gate-rest (argumentTests b (WriteAllowed position long room date)) _ (rw e at h)
+
+    body-fine : Gate (bodyTests 4 b body id) 0
+    unfolding moveTests
+    body-fine = gate-front (bodyTests 4 b body id) _ rest
+
+    pub write-allows : WriteAllowed position long room date
+    write-allows = argument-allowed b (WriteAllowed position long room date) 0 front refl
+
+    pub write-good : Good b (placesOf b)
+    write-good = argument-good b (WriteAllowed position long room date) 0 front refl
+
+    pub write-parent : Parent (viewOf (placesOf b) b) id
+    write-parent = body-parent 4 b body id (placesOf b) 0 write-good body-fine refl
+
+    pub write-sized : BodySized b body
+    write-sized = body-usable 4 b body id body-fine .0
+
+    pub write-within : Within b id (sizeOf position) (wholeSectors (sizeOf long))
+    unfolding moveTests
+    write-within = gate-head 14 _ _ (gate-rest (bodyTests 4 b body id) _ rest) .0
+
+    pub write-lack : Gate (lackTests b id (askedLength b id (sizeOf position) (wholeSectors (sizeOf long)))) 0
+    unfolding moveTests
+    write-lack = gate-head 14 _ _ (gate-rest (bodyTests 4 b body id) _ rest) .1
+
+    -- what the writing of the books asks
+    pub write-writes : (x y w : ℕ) → x ≡ sizeOf position → y ≡ sizeOf long → w ≡ wholeSectors y → w ≢ 0 → Writes b id x w date
+    write-writes x y w place wanted whole ne =
+        let a = write-allows .move in
+        record {
+          some = ne;
+          small = omega (arith, not-below position (a .position'), not-below long (a .long'));
+          room = rw (whole, wanted, place) write-lack;
+          date' = write-allows .date' .long;
+        }
+
+-- ---- the books: the attribute
+
+module _ (b : List ℕ) (p : Places) (is : p ≡ placesOf b) where
+  pub settle-layout : Layout (placesOf b) (length b) → Layout p (length b)
+  settle-layout lay = rw is lay
+
+  pub settle-high : (id : ℕ) → id ≤ placesOf b .indexes → id ≤ p .indexes
+  settle-high id hi = rw is hi
+
+  pub settle-is : (id : ℕ) (t : List ℕ) (a : ℕ) (date b' : List ℕ) → t ≡ tableAt p b id → a ≡ attributeOf t → b' ≡ putAttribute p b id (a - a / 2 % 2 * 2) date → b' ≡ settle b id date
+  unfolding settle
+  settle-is id t a date b' bytes read h = rw (h, read, bytes, is)
+
+-- ---- the books: the length
+
+-- the length and the dates written: the first 1,028 bytes stay, and of the file's table its first word
+module _ (p : Places) (b : List ℕ) (f long : ℕ) (date : List ℕ) (lay : Layout p (length b)) (lo : 1 ≤ f) (hi : f ≤ p .indexes) (six : length date ≡ 6) where
+  module _ (x y z : List ℕ) (ex : x ≡ over b (tablePlace p f + 34) date) (ey : y ≡ putU32 x (tablePlace p f + 40) long) (ez : z ≡ over y 1044 date) where
+    x-kept : Kept b x (tablePlace p f + 34) 6
+    x-kept = rw (six, ← ex) at (kept-over b (tablePlace p f + 34) date (omega arith))
+
+    y-kept : Kept x y (tablePlace p f + 40) 4
+    y-kept = rw ey (kept-putU32 x (tablePlace p f + 40) long)
+
+    z-kept : Kept y z 1044 6
+    z-kept = rw (six, ← ez) at (kept-over y 1044 date (omega (arith, x-kept .len, y-kept .len)))
+
+    z-len : length z ≡ length b
+    z-len = z-kept .len ∙ y-kept .len ∙ x-kept .len
+
+    z-low : (j : ℕ) → j < 1028 → getD z j 0 ≡ getD b j 0
+    z-low j l = z-kept .out j (inl (omega arith)) ∙ y-kept .out j (inl (omega arith)) ∙ x-kept .out j (inl (omega arith))
+
+    z-table : tableAt p z f ≡ putU32 (over (tableAt p b f) 34 date) 40 long
+    z-table =
+        table-kept p f z-kept (inr (omega arith)) ∙ ap (λ (w : List ℕ). tableAt p w f) ey ∙ table-put32 p x f 40 long (omega arith)
+        ∙ ap (λ (t : List ℕ). putU32 t 40 long) (ap (λ (w : List ℕ). tableAt p w f) ex ∙ table-over p b f 34 date lay lo hi (omega arith))
+
+  put-len : length (putLength p b f long date) ≡ length b
+  unfolding putLength
+  put-len = z-len _ _ _ refl refl refl
+
+  put-low : (j : ℕ) → j < 1028 → getD (putLength p b f long date) j 0 ≡ getD b j 0
+  unfolding putLength
+  put-low = z-low _ _ _ refl refl refl
+
+  put-table : tableAt p (putLength p b f long date) f ≡ putU32 (over (tableAt p b f) 34 date) 40 long
+  unfolding putLength
+  put-table = z-table _ _ _ refl refl refl
+
+  dated : Kept (tableAt p b f) (over (tableAt p b f) 34 date) 34 6
+  dated = rw six at (kept-over (tableAt p b f) 34 date (omega (arith, length-table p b f lay lo hi)))
+
+  put-word : wordOf (tableAt p (putLength p b f long date) f) ≡ wordOf (tableAt p b f)
+  put-word = ap wordOf put-table ∙ u32-kept 0 (kept-putU32 (over (tableAt p b f) 34 date) 40 long) (inl (omega arith)) ∙ u32-kept 0 dated (inl (omega arith))
+
+  put-long : lengthOf (tableAt p (putLength p b f long date) f) ≡ long
+  put-long = ap lengthOf put-table ∙ u32-put-same (over (tableAt p b f) 34 date) 40 long (omega (arith, dated .len, length-table p b f lay lo hi))
+
+-- the places are in the first 1,028 bytes
+module _ (b b' : List ℕ) (low : (j : ℕ) → j < 1028 → getD b' j 0 ≡ getD b j 0) where
+  low32 : (o : ℕ) → o + 4 ≤ 1028 → u32At b' o ≡ u32At b o
+  unfolding u32At
+  low32 o l = rw (low o (omega arith), low (o + 1) (omega arith), low (o + 2) (omega arith), low (o + 3) (omega arith))
+
+  low-places : placesOf b' ≡ placesOf b
+  low-places = rw (low32 130 (omega arith), low32 1024 (omega arith), low32 138 (omega arith), low32 142 (omega arith), low32 146 (omega arith))
+
+-- in books b' file id of b is of so many bytes at least, and no shorter than it was
+pub record Grown (b : List ℕ) (id long : ℕ) (b' : List ℕ) : Type 0 where
+  pub places : placesOf b' ≡ placesOf b
+  pub len : length b' ≡ length b
+  pub parent : Parent (viewOf (placesOf b) b') id
+  pub long' : long ≤ lengthOf (tableAt (placesOf b) b' id)
+  pub more : lengthOf (fileBytes b id) ≤ lengthOf (tableAt (placesOf b) b' id)
+
+module _ (b : List ℕ) (id long : ℕ) (date : List ℕ) (g : Good b (placesOf b)) (parent : Parent (viewOf (placesOf b) b) id) (room : Gate (lackTests b id long) 0) (six : length date ≡ 6) where
+  abbrev p : Places
+  p = placesOf b
+
+  abbrev counts : List ℕ
+  counts = growCounts b id long
+
+  abbrev start : Growth
+  start = record { books = b; cursor = cursorOf p b id }
+
+  abbrev a : List ℕ
+  a = inTurn (addBlock p id) (inOrder counts) start .books
+
+  module _ (l : lengthOf (fileBytes b id) < long) where
+    lengthened : Lengthened p id start (inTurn (addBlock p id) (inOrder counts) start) (inOrder counts)
+    lengthened =
+        let w = g .lawful in
+        adds-held p id (inOrder counts) start (ready-grow p b id counts (lack-provided b id long g room l) parent)
+        (lawful-held (viewOf p b) id (w .r2) (w .r3) (w .r4) (w .r5) (w .r6) (w .r7) (w .r8) (w .r9)) (cursor-ends p b id w parent)
+
+    lay : Layout p (length a)
+    lay = rw (lengthened .quiet .len) (g .layout)
+
+    longer : Grown b id long (grown p b id counts long date)
+    unfolding grown
+    longer =
+        let lo = parent .low in
+        let hi = parent .high in
+        let is = put-long p a id long date lay lo hi six in
+        record {
+          places = low-places b (putLength p a id long date) (λ j k. put-low p a id long date lay lo hi six j k ∙ lengthened .quiet .low j k);
+          len = put-len p a id long date lay lo hi six ∙ lengthened .quiet .len;
+          parent = record { low = lo; high = hi; word = put-word p a id long date lay lo hi six ∙ lengthened .ends .parent .word };
+          long' = omega (arith, is);
+          more = omega (arith, is);
+        }
+
+  pub grown-is : Grown b id long (grownTo b id long date)
+  unfolding grownTo
+  grown-is = elim (decLt (lengthOf (fileBytes b id)) long) [
+    | yes l ↦ rw (lt-ltb (lengthOf (fileBytes b id)) long l) (longer l)
+    | no nl ↦ rw (le-ltb (lengthOf (fileBytes b id)) long (omega arith)) (record { places = refl; len = refl; parent = parent; long' = omega arith; more = omega arith })
+  ]
+
+-- ---- the books, written
+
+module _ (b : List ℕ) (id at n : ℕ) (date : List ℕ) (g : Good b (placesOf b)) (parent : Parent (viewOf (placesOf b) b) id) (h : Writes b id at n date) (x : ℕ) (is : x ≡ askedLength b id at n) where
+  pub written-room : Gate (lackTests b id x) 0
+  written-room = rw is (h .room)
+
+  module _ (b' : List ℕ) (e : b' ≡ grownTo b id x date) where
+    grows : Grown b id x b'
+    grows = rw e (grown-is b id x date g parent written-room (h .date'))
+
+    pub written-layout : Layout (placesOf b') (length b')
+    written-layout = rw (grows .places, grows .len) (g .layout)
+
+    pub written-low : 1 ≤ id
+    written-low = parent .low
+
+    pub written-high : id ≤ placesOf b' .indexes
+    written-high = omega (arith, parent .high, ap (λ (q : Places). q .indexes) (grows .places))
+
+  pub written-is : (b' b'' : List ℕ) → b' ≡ grownTo b id x date → b'' ≡ settle b' id date → b'' ≡ writtenBooks b id at n date
+  unfolding writtenBooks
+  written-is b' b'' e q = rw (q, e, is, ne-eqb n 0 (h .some))
+
+-- ---- the request
+
+module _ (b body : List ℕ) (id : ℕ) (position long : Amount) (x : Bool) (input date : List ℕ) where
+  pub write-refused : (m : ℕ) → Gate (writeTests b body id position long (length input) date) m → m ≢ 0 → Wrote b body id position long x input date (Refused m) b body
+  write-refused zero g h = absurd (h refl)
+  write-refused (suc k) g h = record { number = g; answer = refl; books = refl; body'' = refl }
+
+  module _ (m : ℕ) (g : Gate (writeTests b body id position long (length input) date) m) (e : m ≡ 0) (at y n : ℕ) (place : at ≡ sizeOf position) (wanted : y ≡ sizeOf long) (whole : n ≡ wholeSectors y) where
+    amount : n ≡ wholeSectors (sizeOf long)
+    amount = whole ∙ ap wholeSectors wanted
+
+    -- "Zero bytes after rounding changes nothing"
+    pub write-nothing : n ≡ 0 → Wrote b body id position long x input date (Done 0) b body
+    unfolding writtenBooks writtenBody filled
+    write-nothing z =
+        let none : wholeSectors (sizeOf long) ≡ 0 = sym amount ∙ z in
+        record {
+          number = rw e at g;
+          answer = ap Done (sym none);
+          books = sym (ap (λ (k : ℕ). writtenBooks b id (sizeOf position) k date) none);
+          body'' = sym (ap (λ (k : ℕ). writtenBody b id (sizeOf position) k x input date body) none);
+        }
+
+    pub write-done : (b' body' : List ℕ) (p : Places) → b' ≡ writtenBooks b id at n date → p ≡ placesOf b' → body' ≡ filled (viewOf p b') id (at / 1024) x input body (n / 1024)
+        → Wrote b body id position long x input date (Done n) b' body'
+    unfolding writtenBody
+    write-done b' body' p books is filled' = record {
+      number = rw e at g;
+      answer = ap Done amount;
+      books = books ∙ ap₂ (λ (i j : ℕ). writtenBooks b id i j date) place amount;
+      body'' = rw (filled', is, books, place, amount);
+    }
+
+-- ---- one result
+
+pub wrote-one : (b body : List ℕ) (id : ℕ) (position long : Amount) (x : Bool) (input date : List ℕ) (r s : Answer) (c d u w : List ℕ)
+    → Wrote b body id position long x input date r c u → Wrote b body id position long x input date s d w → (r ≡ s) × (c ≡ d) × (u ≡ w)
+wrote-one b body id position long x input date r s c d u w h k =
+    let e = gate-one _ (numberOf r) (numberOf s) (h .number) (k .number) in (
+      answers-one r s _ _ (h .answer) (k .answer) e refl,
+      after-one (numberOf r) (numberOf s) c d _ b e (h .books) (k .books),
+      after-one (numberOf r) (numberOf s) u w _ body e (h .body'') (k .body''),
+    )

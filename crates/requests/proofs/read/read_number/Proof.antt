@@ -1,0 +1,21 @@
+use Rattle.requests.proofs.CreateLaws.{argument-room}
+use Rattle.requests.proofs.StateLaws.{argued-good}
+use Rattle.requests.proofs.ReadLaws.{body-parent, read-stops, read-unusable, read-past, read-fine}
+use borrow.Author.Needs.{needs}
+use Rattle.requests.proofs.read.read_number.Statement.{statement}
+use Rattle.requests.proofs.read.read_number.Tie as tie
+
+pub read-number-spec : {M : Type 1} → statement M
+read-number-spec =
+    tie.close
+    (tie.spec
+    (λ c κs. search needs)
+    (λ c κs. search needs)
+    (λ c. search read-stops)
+    (λ c κs. search argument-room)
+    (λ c κs. (search argued-good, search needs))
+    (λ c. search read-unusable)
+    (λ c κs. search needs)
+    (λ c κs. search (argued-good, body-parent))
+    (λ c. search read-past)
+    (λ c. search read-fine))

@@ -1,0 +1,20 @@
+use Rattle.requests.proofs.CreateLaws.{argument-room}
+use Rattle.requests.proofs.StateLaws.{argued-good}
+use Rattle.requests.proofs.WriteLaws.{write-stops, write-early, write-short, write-goes}
+use borrow.Author.Needs.{needs}
+use Rattle.requests.proofs.write.write_number.Statement.{statement}
+use Rattle.requests.proofs.write.write_number.Tie as tie
+
+pub write-number-spec : {M : Type 1} → statement M
+write-number-spec =
+    tie.close
+    (tie.spec
+    (λ c κs. search needs)
+    (λ c κs. search needs)
+    (λ c. search write-stops)
+    (λ c κs. search argument-room)
+    (λ c κs. search needs)
+    (λ c κs. search needs)
+    (λ c κs. search needs)
+    (λ c κs. search (argued-good, write-early, write-short))
+    (λ c. search write-goes))

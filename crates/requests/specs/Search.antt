@@ -1,0 +1,66 @@
+-- "Search lists ids of active files that match, ascending, as many as the lent list of u32 holds, and the full count. The pattern is 1 to 24
+-- non-null bytes, else 7." "What isn't filled stays."
+use mathlib.Core.Path.{_≡_}
+use mathlib.Core.Logic.{_≢_}
+use mathlib.Core.Bool.{Bool, cond, _&&_}
+use mathlib.Core.List.{List, [], _∷_, _++_}
+use Prim.Native.Nat.{ℕ, zero, suc, _≤_, _<_}
+use lib.Dec.{eqb}
+use lib.ListN.{length, getD, take}
+use Rattle.field.specs.Parts.{over}
+use Rattle.names.specs.Pattern.{matches}
+use Rattle.tables.specs.Indexes.{nameOf}
+use Rattle.tables.specs.Places.{placesOf}
+use Rattle.tables.specs.Gates.{Test, Gate}
+use Rattle.tables.specs.Rules.R9.{activeOne}
+use Rattle.tables.specs.Views.{View, viewOf}
+use Rattle.requests.specs.declared.answer.Answer.{Answer}
+use Rattle.requests.specs.Answers.{after, numberOf, answerOf}
+use Rattle.requests.specs.Create.{argumentTests}
+
+-- ---- which files
+
+-- table i is an active file's parent: what rule R9 counts as one
+unfoldable pub isActive : View → ℕ → Bool
+isActive v i = eqb (activeOne i (v .table i)) 1
+
+-- the bytes before the first null
+unfoldable pub textOf : List ℕ → List ℕ
+textOf [] = []
+textOf (c ∷ s) = cond (eqb c 0) [] (c ∷ textOf s)
+
+-- an active file whose name matches
+unfoldable pub isMatch : View → List ℕ → ℕ → Bool
+unfolding isActive textOf
+isMatch v pattern i = isActive v i && matches pattern (textOf (nameOf (v .table i)))
+
+-- the numbers from 1 to n that pass the test, ascending
+unfoldable pub passing : (ℕ → Bool) → ℕ → List ℕ
+passing test zero = []
+passing test (suc n) = passing test n ++ cond (test (suc n)) (suc n ∷ []) []
+
+-- the ids of the files that match
+unfoldable pub found : List ℕ → List ℕ → List ℕ
+unfolding isMatch passing
+found b pattern = let v = viewOf (placesOf b) b in passing (isMatch v pattern) (v .indexes)
+
+-- ---- the promise
+
+-- "1 to 24 non-null bytes"
+pub record PatternAllowed (pattern : List ℕ) : Type 0 where
+  pub some : 1 ≤ length pattern
+  pub most : length pattern ≤ 24
+  pub text : (k : ℕ) → k < length pattern → getD pattern k 0 ≢ 0
+
+-- 1 to 5, then 7
+abbrev pub searchTests : List ℕ → List ℕ → List Test
+searchTests b pattern = argumentTests b (PatternAllowed pattern)
+
+-- the lent list with as many of these as it holds
+abbrev pub filledWith : List ℕ → List ℕ → List ℕ
+filledWith lent ids = over lent 0 (take (length lent) ids)
+
+pub record Searched (b pattern ids : List ℕ) (r : Answer) (ids' : List ℕ) : Type 0 where
+  pub number : Gate (searchTests b pattern) (numberOf r)
+  pub answer : r ≡ answerOf (numberOf r) (length (found b pattern))
+  pub list : ids' ≡ after (numberOf r) (filledWith ids (found b pattern)) ids

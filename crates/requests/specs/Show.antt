@@ -1,0 +1,37 @@
+-- "Show hands back that sector as it lies in the body, an empty part on refusal; read-protected is 10. Its number comes from a second call
+-- with the same arguments."
+use mathlib.Core.Path.{_≡_}
+use mathlib.Core.List.{List, [], _∷_, _++_}
+use Prim.Native.Nat.{ℕ, zero, suc}
+use lib.ListN.{take, drop}
+use Rattle.tables.specs.Gates.{Test, asks, Gate}
+use Rattle.files.specs.Moves.{bodyPlace, sectorBytes}
+use Rattle.requests.specs.declared.show.Part.{Part}
+use Rattle.requests.specs.Answers.{useTests}
+use Rattle.requests.specs.Body.{bodyTests}
+use Rattle.requests.specs.Locate.{HasSector, sectorOf}
+
+-- 1 to 5, 15, 8, 9, 10, then 14
+unfoldable pub showTests : List ℕ → List ℕ → ℕ → ℕ → List Test
+showTests b body id k = useTests b ++ (bodyTests 8 b body id ++ (asks 14 (HasSector b id k) ∷ []))
+
+-- where the part lies in the body: 1,024 bytes where the number is 0, else none, at 0
+abbrev pub partOf : ℕ → ℕ → Part
+partOf zero s = record { at = bodyPlace s; len = 1024 }
+partOf (suc k) s = record { at = 0; len = 0 }
+
+pub record ShownAt (b body : List ℕ) (id k : ℕ) (r : Part) : Type 0 where
+  pub number : ℕ
+  pub gate : Gate (showTests b body id k) number
+  pub part : r ≡ partOf number (sectorOf b id k)
+
+-- the part itself
+abbrev pub bytesOf : ℕ → List ℕ → ℕ → List ℕ
+bytesOf zero body s = sectorBytes body s
+bytesOf (suc k) body s = []
+
+-- show's promise
+pub record Shown (b body : List ℕ) (id k : ℕ) (part : List ℕ) : Type 0 where
+  pub number : ℕ
+  pub gate : Gate (showTests b body id k) number
+  pub bytes : part ≡ bytesOf number body (sectorOf b id k)

@@ -1,0 +1,59 @@
+// Show: a file's k-th sector as it lies in the caller's body.
+use crate::body::body_number;
+use crate::locate::kth_sector;
+use crate::space::use_number;
+use allocation::size::file_sectors;
+use files::sectors::body_place;
+use tables::kinds::Index;
+use tables::places::read_places;
+ghost use Rattle.tables.specs.Gates.{Gate};
+ghost use Rattle.requests.specs.Show.{showTests, ShownAt, Shown};
+
+// A part of the body: where it begins, and how many bytes it has.
+#[repr(C)]
+pub struct Part {
+    pub at: usize,
+    pub len: usize,
+}
+
+// Show's number.
+pub fn show_number(b: &[u8], body: &[u8], id: u32, k: u32) -> u32
+    ensures { λ r. ⌜ Gate (showTests (now (b .entry)) (now (body .entry)) id k) r ⌝ }
+{
+    let n = use_number(b);
+    if n != 0 {
+        return n;
+    }
+    let p = read_places(b);
+    let m = body_number(b, p, body, id, 8);
+    if m != 0 {
+        return m;
+    }
+    if k as u64 >= file_sectors(b, p, Index(id)) {
+        return 14;
+    }
+    0
+}
+
+// Where the part lies; at 0 with no bytes on a refusal.
+pub fn show_part(b: &[u8], body: &[u8], id: u32, k: u32) -> Part
+    ensures { λ r. ⌜ ShownAt (now (b .entry)) (now (body .entry)) id k r ⌝ }
+{
+    if show_number(b, body, id, k) != 0 {
+        return Part { at: 0, len: 0 };
+    }
+    Part {
+        at: body_place(kth_sector(b, read_places(b), Index(id), k)),
+        len: 1024,
+    }
+}
+
+// The part itself.
+pub fn show<'a, 'b>(b: &'a [u8], body: &'b [u8], id: u32, k: u32) -> &'b [u8]
+    ensures { λ r. ⌜ Shown (now (b .entry)) (now (body .entry)) id k (now r) ⌝ }
+{
+    let part = show_part(b, body, id, k);
+    let at = part.at;
+    let end = at + part.len;
+    &body[at..end]
+}

@@ -20,3 +20,14 @@ pub mod BenchCards
 pub mod ReadLaws
 pub mod WriteLaws
 pub mod WriteKeeps
+pub mod StepLeaves
+pub mod StepState
+pub mod StepGrow
+pub mod StepWrite
+pub mod StepSound
+pub mod StepFrame
+pub mod HistoryLaws
+pub mod StampLaws
+pub mod SteadyLaws
+pub mod AlikeLaws
+pub mod DemandThree

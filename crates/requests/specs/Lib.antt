@@ -17,3 +17,4 @@ pub mod Body
 pub mod Show
 pub mod Read
 pub mod Write
+pub mod History

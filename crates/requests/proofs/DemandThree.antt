@@ -1,0 +1,158 @@
+-- Demand 3, sentence by sentence: "From lawful books and a body of the right length, after any requests without format, refused ones included:
+-- the rules still hold; each sector outside the system zones is free or belongs to one place of one file; a request changes no index table and
+-- no data byte of a file it does not name; each file sector holds what the last write put there until the file's actual delete; no index chain
+-- is longer than the number of index tables." The terms are those of specs/History.antt. Assumes nothing.
+use mathlib.Core.Path.{_≡_, sym, _∙_}
+use mathlib.Core.Logic.{_⊎_, inl, inr, _≢_}
+use mathlib.Core.Bool.{Bool}
+use mathlib.Core.List.{List}
+use Prim.Native.Nat.{ℕ, suc, _+_, _-_, _*_, _≤_, _<_}
+use native.Mathlib.Decide.{ℕ-discrete}
+use native.Mathlib.Omega.{arith}
+use lib.ListN.{length}
+use Rattle.field.proofs.BitLaws.{bitAt-lt}
+use Rattle.tables.specs.declared.index.Pointer.{Pointer}
+use Rattle.tables.specs.Books.{Good}
+use Rattle.tables.specs.Indexes.{baseOf, pointerAt, fileOf}
+use Rattle.tables.specs.Lawful.{Lawful}
+use Rattle.tables.specs.Places.{placesOf, Layout}
+use Rattle.tables.specs.Rules.R4.{FreeChain}
+use Rattle.tables.specs.Rules.R5.{FileChain}
+use Rattle.tables.specs.Rules.R8.{fileSectors}
+use Rattle.tables.specs.Views.{viewOf, Parent}
+use Rattle.tables.proofs.PointerLaws.{set-under, under-set}
+use Rattle.allocation.proofs.LastLaws.{file-short}
+use Rattle.files.specs.Moves.{sectorBytes}
+use Rattle.files.specs.Spots.{kthSector}
+use Rattle.files.proofs.PlaceLaws.{kth-under, place-one, under-place}
+use Rattle.files.proofs.SpotLaws.{kth-inside}
+use Rattle.requests.specs.declared.amount.Amount.{Amount}
+use Rattle.requests.specs.declared.answer.Answer.{Answer}
+use Rattle.requests.specs.Read.{ReadOut}
+use Rattle.requests.specs.Show.{Shown}
+use Rattle.requests.specs.State.{removed, recovered, protected}
+use Rattle.requests.specs.History.{Volume, seen, Sound, Changes, temporaryDelete, recover, setProtection, write, Does, Step, History, namedBy, Belongs, bytesAt, PutsIn, Deletes, SparedIn}
+use Rattle.requests.proofs.StateKeeps.{removed-keeps, recovered-keeps, protected-keeps}
+use Rattle.requests.proofs.StepSound.{step-sound}
+use Rattle.requests.proofs.StepFrame.{step-untouched, step-bytes, step-puts}
+use Rattle.requests.proofs.HistoryLaws.{other-bytes, step-place, sound-after, spared-stays, free-short}
+use Rattle.requests.proofs.StampLaws.{removed-pointer, recovered-pointer, protected-pointer, after-pointer}
+use Rattle.requests.proofs.AlikeLaws.{SameFile, shows-same, reads-same, wrote-same}
+
+module _ (v w : Volume) (start : Sound v) (h : History v w) where
+  -- ---- "the rules still hold", and the body has its length
+
+  pub still-sound : Sound w
+  still-sound = sound-after v w start h
+
+  layout : Layout (placesOf (w .books)) (length (w .books))
+  layout = still-sound .good .layout
+
+  lawful : Lawful (placesOf (w .books)) (w .books)
+  lawful = still-sound .good .lawful
+
+  bits : (s : ℕ) → seen w .bit s < 2
+  bits s = bitAt-lt (w .books) (placesOf (w .books) .sectortable) s
+
+  -- ---- "each sector outside the system zones is free or belongs to one place of one file"
+
+  pub free-or-belongs : (s : ℕ) → 1024 ≤ s → s < 1024 * (seen w .zones - 1) → (seen w .bit s ≡ 0) ⊎ ((f : ℕ) × (k : ℕ) × Belongs w f k s)
+  free-or-belongs s low high = elim (ℕ-discrete (seen w .bit s) 0) [
+    | yes z ↦ inl z
+    | no ne ↦ (let u = set-under (seen w) (lawful .r6) (lawful .r7) bits s high low (omega (arith, bits s)) in
+        let q = under-place (placesOf (w .books)) (w .books) layout lawful (u .0) (u .1) s (u .2) in
+        inr (fileOf (u .0) (seen w .table (u .0)), q .1 .0, record { file = q .0; place = q .1 .1; here = q .1 .2 }))
+  ]
+
+  -- not both
+  pub belongs-set : (f k s : ℕ) → Belongs w f k s → seen w .bit s ≡ 1
+  belongs-set f k s here =
+      let u = kth-under (placesOf (w .books)) (w .books) layout lawful f k (here .file) (here .place) in
+      under-set (seen w) (lawful .r6) (lawful .r7) bits s (u .0) (u .1) (rw (here .here) at (u .2))
+
+  -- one file, one place
+  pub belongs-one : (f g k l s : ℕ) → Belongs w f k s → Belongs w g l s → (f ≡ g) × (k ≡ l)
+  belongs-one f g k l s here there =
+      place-one (placesOf (w .books)) (w .books) layout lawful f g k l (here .file) (there .file) (here .place) (there .place) (here .here ∙ sym (there .here))
+
+  -- and no sector of the system zones
+  pub belongs-inside : (f k s : ℕ) → Belongs w f k s → (1024 ≤ s) × (s < 1024 * (seen w .zones - 1))
+  belongs-inside f k s here = rw (here .here) at (kth-inside (placesOf (w .books)) (w .books) layout lawful f (here .file) k (here .place))
+
+  -- ---- "no index chain is longer than the number of index tables": a parent and its m children, and m free tables
+
+  pub file-chain : (f m : ℕ) → Parent (seen w) f → FileChain (seen w) f m → suc m ≤ seen w .indexes
+  file-chain f m parent chain = file-short (seen w) f m parent chain
+
+  pub free-chain : (m : ℕ) → FreeChain (seen w) m → m ≤ seen w .indexes
+  free-chain m chain = free-short (seen w) m chain
+
+  -- ---- "a request changes no index table and no data byte of a file it does not name"
+
+  module _ (x : Volume) (s : Step w x) where
+    module _ (g : ℕ) (parent : Parent (seen w) g) (other : g ≢ namedBy (s .request)) where
+      -- the file's index tables are those that it had, byte for byte
+      pub other-tables : (j : ℕ) → 1 ≤ j → j ≤ seen w .indexes → fileOf j (seen w .table j) ≡ g → seen x .table j ≡ seen w .table j
+      other-tables j low high is =
+          let u = step-untouched w x still-sound (s .request) (s .does) in
+          u .1 .was j low high (λ z. omega (arith, parent .low)) (λ z. u .2 g parent other (sym is ∙ z))
+
+      pub no-other-tables : (j : ℕ) → 1 ≤ j → j ≤ seen w .indexes → fileOf j (seen x .table j) ≡ g → seen x .table j ≡ seen w .table j
+      no-other-tables j low high is =
+          let u = step-untouched w x still-sound (s .request) (s .does) in
+          u .1 .now j low high (λ z. omega (arith, parent .low)) (λ z. u .2 g parent other (sym is ∙ z))
+
+      pub other-data : (k : ℕ) → k < fileSectors (seen w) g → bytesAt x g k ≡ bytesAt w g k
+      other-data k l = other-bytes w x still-sound (s .request) (s .does) g parent other k l
+
+    -- any file, the named one too, keeps its sectors at their places until its actual delete
+    pub place-kept : (f k n : ℕ) → Belongs w f k n → (Deletes w x (s .request) (s .does) f → ⊥) → Belongs x f k n
+    place-kept f k n here kept = step-place w x still-sound s f k n here kept
+
+    -- what is not written stays, in old sectors as in new ones
+    pub bytes-kept : (f k n : ℕ) → Belongs x f k n → ((bytes : List ℕ) → PutsIn w x (s .request) (s .does) f k bytes → ⊥) → sectorBytes (x .body) n ≡ sectorBytes (w .body) n
+    bytes-kept f k n here unwritten = step-bytes w x still-sound (s .request) (s .does) f k n here unwritten
+
+  -- ---- "each file sector holds what the last write put there until the file's actual delete"
+
+  pub memory : (x y : Volume) (s : Step w x) (f k : ℕ) (bytes : List ℕ) → PutsIn w x (s .request) (s .does) f k bytes → (after : History x y) → SparedIn after f k
+      → (n : ℕ) × Belongs y f k n × (sectorBytes (y .body) n ≡ bytes)
+  memory x y s f k bytes put after spared =
+      let p = step-puts w x still-sound (s .request) (s .does) f k bytes put in
+      let q = spared-stays x y (step-sound w x still-sound (s .request) (s .does)) f k (p .0) (p .1) after spared in
+      (p .0, q .0, q .1 ∙ p .2)
+
+  -- ---- for the person who reads only one line: two files share no sector, and a write to one changes nothing that the other gives
+
+  pub apart : (f g k l : ℕ) → f ≢ g → Parent (seen w) f → Parent (seen w) g → k < fileSectors (seen w) f → l < fileSectors (seen w) g → kthSector (seen w) f k ≢ kthSector (seen w) g l
+  apart f g k l ne pf pg lk ll e = ne (place-one (placesOf (w .books)) (w .books) layout lawful f g k l pf pg lk ll e .0)
+
+  module _ (x : Volume) (f : ℕ) (at many : Amount) (swap : Bool) (input date : List ℕ) (d : Does (write f at many swap input date) w x) (g : ℕ) (other : g ≢ f) where
+    twin : SameFile w x g
+    twin = wrote-same w x still-sound f at many swap input date d g other
+
+    pub read-same : (position long : Amount) (exchange : Bool) (out : List ℕ) (r r' : Answer) (y y' : List ℕ)
+        → ReadOut (w .books) (w .body) g position long exchange out r y → ReadOut (x .books) (x .body) g position long exchange out r' y' → (r ≡ r') × (y ≡ y')
+    read-same position long exchange out r r' y y' a b = reads-same w x g twin position long exchange out r r' y y' a b
+
+    pub show-same : (k : ℕ) (y y' : List ℕ) → Shown (w .books) (w .body) g k y → Shown (x .books) (x .body) g k y' → y ≡ y'
+    show-same k y y' a b = shows-same w x g twin k y y' a b
+
+-- the j-th pointer of index table i
+abbrev pointer : List ℕ → ℕ → ℕ → Pointer
+pointer b i j = let t = viewOf (placesOf b) b .table i in pointerAt t (baseOf i t + 6 * j)
+
+-- ---- "temporary delete, recover and set protection change neither pointers nor data": data, since they do not take the body
+
+module _ (b b' : List ℕ) (good : Good b (placesOf b)) (id w : ℕ) (date : List ℕ) (i j : ℕ) (low : 1 ≤ i) (high : i ≤ placesOf b .indexes) where
+  pub removed-pointers : Changes (temporaryDelete id date) b b' → pointer b' i j ≡ pointer b i j
+  removed-pointers d = after-pointer (d .0) (removed (placesOf b) b id date) b b' i j (removed-keeps b id date (d .0) b' (placesOf b) (d .1) good) (d .1 .books)
+      (removed-pointer b good id date i j low (d .0) (d .1 .number))
+
+  pub recovered-pointers : Changes (recover id date) b b' → pointer b' i j ≡ pointer b i j
+  recovered-pointers d = after-pointer (d .0) (recovered (placesOf b) b id date) b b' i j (recovered-keeps b id date (d .0) b' (placesOf b) (d .1) good) (d .1 .books)
+      (recovered-pointer b good id date i j low (d .0) (d .1 .number))
+
+  pub protected-pointers : Changes (setProtection id w date) b b' → pointer b' i j ≡ pointer b i j
+  protected-pointers d = after-pointer (d .0) (protected (placesOf b) b id w date) b b' i j (protected-keeps b id w date (d .0) b' (placesOf b) (d .1) good) (d .1 .books)
+      (protected-pointer b good id date i j low w (d .0) (d .1 .number))

@@ -1,0 +1,83 @@
+-- Creates and grow leave the tables of other files, and a file that grows has its sectors where it had them. Assumes nothing.
+use mathlib.Core.Path.{_≡_, refl}
+use mathlib.Core.List.{List}
+use Prim.Native.Nat.{ℕ, _≤_, _<_}
+use native.Mathlib.Decide.{decLt}
+use native.Mathlib.Omega.{arith}
+use lib.ListN.{length}
+use borrow.Author.Tests.{lt-ltb, le-ltb}
+use Rattle.tables.specs.declared.counts.Chosen.{Chosen}
+use Rattle.tables.specs.declared.counts.Chosen.the-variants.{Types, Bad}
+use Rattle.tables.specs.Books.{Good}
+use Rattle.tables.specs.Gates.{Gate}
+use Rattle.tables.specs.Indexes.{lengthOf}
+use Rattle.tables.specs.Places.{placesOf}
+use Rattle.tables.specs.Sector1.{firstFreeOf}
+use Rattle.tables.specs.Views.{viewOf, Parent}
+use Rattle.tables.proofs.CountsLaws.{counts-six}
+use Rattle.tables.proofs.GateLaws.{gate-rest, gate-front}
+use Rattle.allocation.specs.Tails.{noPointer}
+use Rattle.allocation.specs.NewTables.{New}
+use Rattle.allocation.specs.Files.{created}
+use Rattle.allocation.proofs.FileLaws.{length-only}
+use Rattle.files.specs.Unchanged.{Untouched, SamePlaces}
+use Rattle.files.proofs.UntouchedLaws.{untouched-refl, places-refl}
+use Rattle.files.proofs.GrownFrame.{grown-untouched, grown-places, created-untouched, created-new}
+use Rattle.requests.specs.declared.amount.Amount.{Amount}
+use Rattle.requests.specs.declared.amount.Amount.the-variants.{Below, Is}
+use Rattle.requests.specs.declared.create.Created.{Created}
+use Rattle.requests.specs.Create.{argumentTests, numberOf, Creates, countsFor, CreatedFixed, cellType, CreatedVariable}
+use Rattle.requests.specs.Format.{sizeOf}
+use Rattle.requests.specs.Grow.{growCounts, lackTests, grownTo, Grew}
+use Rattle.requests.specs.Named.{fileBytes}
+use Rattle.requests.proofs.CreateLaws.{argument-allowed, file-fits, room-provides}
+use Rattle.requests.proofs.GrowLaws.{lack-provided, grow-parent, grow-room, grow-date}
+use Rattle.requests.proofs.WriteLaws.{grown-is}
+use Rattle.requests.proofs.StepLeaves.{Leaves, leaves-at, leaves-new, leaves-done}
+
+-- ---- a new file
+
+counts-long : (types : Chosen) (size : Amount) → length (countsFor types size) ≡ 6
+counts-long (Types w) (Is n) = counts-six w n
+counts-long (Types w) Below = refl
+counts-long Bad size = refl
+
+module _ (b : List ℕ) (g : Good b (placesOf b)) (gone : ℕ → Type 0) where
+  -- both creates: where the arguments are allowed, the file's fields fit
+  creates-leaves : (P : Type 0) (counts : List ℕ) (n : New) (r : Created) (b' : List ℕ) → length counts ≡ 6
+      → (P → (length (n .name) ≤ 24) × (length (n .date) ≡ 6) × (n .attribute < 128)) → Creates b P counts n r b' → Leaves b b' 0 gone
+  creates-leaves P counts n r b' six fits h =
+      leaves-done b g 0 gone (numberOf r) (created (placesOf b) b n counts) b' (h .books) (λ z.
+      (let q = rw z at (h .number) in
+      let a = fits (argument-allowed b P 0 (gate-front (argumentTests b P) _ q) refl) in
+      let provided = room-provides b (placesOf b) noPointer counts 0 g six (gate-rest (argumentTests b P) _ q) refl in
+      leaves-new b g 0 gone (created (placesOf b) b n counts) (firstFreeOf b) (created-untouched (placesOf b) b n counts provided (a .0) (a .1) (a .2))
+      (created-new (placesOf b) b n counts provided (a .0) (a .1) (a .2))))
+
+  pub fixed-leaves : (name : List ℕ) (size : Amount) (types : Chosen) (kind : ℕ) (date : List ℕ) (r : Created) (b' : List ℕ) → CreatedFixed b name size types kind date r b' → Leaves b b' 0 gone
+  fixed-leaves name size types kind date r b' = creates-leaves _ _ _ r b' (counts-long types size) (λ a. file-fits name kind date 0 _ (omega arith) (a .file) refl)
+
+  pub variable-leaves : (name : List ℕ) (cell : Amount) (kind : ℕ) (date : List ℕ) (r : Created) (b' : List ℕ) → CreatedVariable b name cell kind date r b' → Leaves b b' 0 gone
+  variable-leaves name cell kind date r b' = creates-leaves _ _ _ r b' (length-only (cellType cell) 1) (λ a. file-fits name kind date 1 _ (omega arith) (a .file) refl)
+
+-- ---- a file that grows
+
+module _ (b : List ℕ) (g : Good b (placesOf b)) (id long : ℕ) (date : List ℕ) (parent : Parent (viewOf (placesOf b) b) id) (room : Gate (lackTests b id long) 0) (six : length date ≡ 6) where
+  pub longer-frame : Untouched (viewOf (placesOf b) b) (viewOf (placesOf b) (grownTo b id long date)) id × SamePlaces (viewOf (placesOf b) b) (viewOf (placesOf b) (grownTo b id long date)) id
+  unfolding grownTo
+  longer-frame =
+      let p = placesOf b in
+      elim (decLt (lengthOf (fileBytes b id)) long) [
+        | yes l ↦ (let provided = lack-provided b id long g room l in
+            rw (lt-ltb (lengthOf (fileBytes b id)) long l) (grown-untouched p b id (growCounts b id long) long date provided parent six, grown-places p b id (growCounts b id long) long date provided parent six))
+        | no nl ↦ rw (le-ltb (lengthOf (fileBytes b id)) long (omega arith)) (untouched-refl (viewOf p b) id, places-refl (viewOf p b) id)
+      ]
+
+pub grew-leaves : (b : List ℕ) (g : Good b (placesOf b)) (gone : ℕ → Type 0) (id : ℕ) (long : Amount) (date : List ℕ) (r : ℕ) (b' : List ℕ) → Grew b id long date r b' → Leaves b b' id gone
+grew-leaves b g gone id long date r b' h =
+    leaves-done b g id gone r (grownTo b id (sizeOf long) date) b' (h .books) (λ e.
+    (let parent = grow-parent b id long date r (h .number) e in
+    let room = grow-room b id long date r (h .number) e (sizeOf long) refl in
+    let six = grow-date b id long date r (h .number) e in
+    let frame = longer-frame b g id (sizeOf long) date parent room six in
+    leaves-at b g id gone (grownTo b id (sizeOf long) date) id (frame .0) (λ h stands ne. ne) (λ stands kept. (grown-is b id (sizeOf long) date g parent room six .parent, frame .1))))

@@ -41,10 +41,14 @@ static int check(const uint8_t *curve, uint32_t id) {
     isc_part last;
     if (refused("search", isc_search(books, sizeof books, pattern, sizeof pattern - 1, &found, 1, &count)))
         return 1;
+    if (count != 1) {
+        printf("%u files found\n", count);
+        return 1;
+    }
     if (refused("read", isc_read(books, sizeof books, body, sizeof body, found, 0, 5120, 0, back, sizeof back, &moved)))
         return 1;
     last = isc_show(books, sizeof books, body, sizeof body, found, 4);
-    if (count != 1 || found != id || moved != 5120 || memcmp(back, curve, 5120) != 0 || last.len != 1024
+    if (found != id || moved != 5120 || memcmp(back, curve, 5120) != 0 || last.len != 1024
         || memcmp(last.at, curve + 4096, 1024) != 0) {
         printf("the file is not what was stored\n");
         return 1;

@@ -13,7 +13,8 @@
     15 body length wrong
    A refusal alters no lent byte, and a value beside it is 0. A slice is a pointer and a length in
    elements; an empty slice has a pointer that isn't null. Slices that are lent at the same time must
-   not overlap. A date is the six bytes as they stand on the volume. */
+   not overlap. A date is the six bytes as they stand on the volume; a slice of another length is refused
+   as 7, like a date that isn't valid. */
 #ifndef ISC_H
 #define ISC_H
 
@@ -101,8 +102,10 @@ uint32_t isc_report(const uint8_t *books, size_t books_len,
 /* Moves whole sectors between an active file, from a position on, and a buffer, with byte pairs exchanged
    if `exchange` is not 0, and answers how many bytes were moved: 1 to 5, 7, 15, 8 to 10, 14, and for a
    write 12 and 13. The position is a multiple of 1,024; the length is rounded down to one, and the buffer
-   has at least so many bytes. A read ends at the file's byte length, rounded up to 1,024; what is past the
-   bytes moved stays. A write of a variable file past its length first makes it longer. */
+   has at least so many bytes. The file's end is its byte length, rounded up to 1,024: a read at or past it
+   is 14, and a read moves no more than what is before it; what is past the bytes moved stays in the buffer.
+   A write past the end is 14, and so is one of a fixed file that would go past it; a variable file first
+   becomes longer where it has to. A write of no bytes changes nothing. */
 uint32_t isc_read(const uint8_t *books, size_t books_len,
                   const uint8_t *body, size_t body_len,
                   uint32_t id, int32_t position, int32_t length, uint32_t exchange,

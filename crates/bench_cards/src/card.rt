@@ -1,19 +1,27 @@
 // Requests on a card of five sectors of books, passed by value: each step's books stay for comparison.
 use crate::line::say;
 use crate::line::say_file;
+use crate::line::say_ids;
 use crate::line::say_number;
 use crate::line::say_state;
+use crate::line::word;
 use requests::actual_delete::actual_delete;
 use requests::amount::Amount;
 use requests::amount::amount_of;
+use requests::answer::Answer;
 use requests::create::Created;
 use requests::create_fixed::create_fixed;
 use requests::create_variable::create_variable;
 use requests::format::format;
 use requests::grow::grow;
+use requests::list::list;
+use requests::locate::Located;
+use requests::locate::locate;
 use requests::mount::mount;
 use requests::recover::recover;
+use requests::search::search;
 use requests::set_protection::set_protection;
+use requests::show::show_number;
 use requests::space::Space;
 use requests::space::space_of;
 use requests::temporary_delete::temporary_delete;
@@ -126,6 +134,60 @@ pub fn protect(step: &[u8], card: [u8; 5120], id: u32, weights: u32) -> [u8; 512
     let number = set_protection(&mut after, id, weights, b"\x07\xea\x01\x02\x03\x0a");
     say_state(step, number, id, &card, &after);
     after
+}
+
+// This paper's number and value of an answer.
+fn answer_number(answer: Answer) -> u32 {
+    match answer {
+        Answer::Done(_value) => 0,
+        Answer::Refused(n) => n,
+    }
+}
+
+fn answer_value(answer: Answer) -> u32 {
+    match answer {
+        Answer::Done(value) => value,
+        Answer::Refused(_n) => 0,
+    }
+}
+
+// Search with a list of two.
+pub fn find(b: &[u8], pattern: &[u8]) {
+    let mut ids = [0u32; 2];
+    let answer = search(b, pattern, &mut ids);
+    say(b"search ");
+    say(pattern);
+    say_ids(answer_number(answer), answer_value(answer), ids[0], ids[1]);
+}
+
+// List with room for two: each entry begins with the file's id.
+pub fn list_from(b: &[u8], from: u32) {
+    let mut entries = [0u8; 128];
+    let answer = list(b, from, &mut entries);
+    say_number(b"list ", from);
+    say_ids(
+        answer_number(answer),
+        answer_value(answer),
+        word(&entries, 0),
+        word(&entries, 64),
+    );
+}
+
+pub fn locate_place(b: &[u8], id: u32, k: u32) {
+    say_number(b"locate ", id);
+    say_number(b" ", k);
+    let found = locate(b, id, k);
+    match found {
+        Located::At(s) => say_number(b" sector=", s.0),
+        Located::Refused(n) => say_number(b" number=", n),
+    }
+    say(b"\n");
+}
+
+// Show wants the body.
+pub fn show_nothing(b: &[u8], id: u32) {
+    say_number(b"show without a body number=", show_number(b, b"", id, 0));
+    say(b"\n");
 }
 
 // Space: refused if the books break a rule.

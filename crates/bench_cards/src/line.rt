@@ -31,7 +31,7 @@ fn half(s: &[u8], at: usize) -> u32 {
 }
 
 // The number of four bytes, 0 outside the slice.
-fn word(s: &[u8], at: usize) -> u32 {
+pub fn word(s: &[u8], at: usize) -> u32 {
     if s.len() < 4 {
         return 0;
     }
@@ -130,6 +130,15 @@ pub fn say_file(step: &[u8], number: u32, id: u32, before: &[u8], after: &[u8]) 
         say_zones(after);
     }
     say_books(before, after);
+}
+
+// The line of a request that answers two ids at most, beside their count.
+pub fn say_ids(number: u32, count: u32, first: u32, second: u32) {
+    say_number(b" number=", number);
+    say_number(b" count=", count);
+    say(b" ids=");
+    say_pair(first, second);
+    say(b"\n");
 }
 
 // The free chain from sector 1 on: N is eight at most.

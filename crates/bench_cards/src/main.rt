@@ -6,14 +6,18 @@ use crate::card::create;
 use crate::card::create_cell;
 use crate::card::create_on;
 use crate::card::delete;
+use crate::card::find;
 use crate::card::format_books;
 use crate::card::formatted;
 use crate::card::grow_to;
+use crate::card::list_from;
+use crate::card::locate_place;
 use crate::card::mount_books;
 use crate::card::mounted;
 use crate::card::protect;
 use crate::card::remove;
 use crate::card::restore;
+use crate::card::show_nothing;
 use crate::card::space;
 
 // Counts per zone type, on fresh cards with open zones enough; P3 follows P2 on its card.
@@ -167,6 +171,23 @@ fn growing() {
     space(&full);
 }
 
+// Two curves on the card, 1 "CURVE 60A" and 2 "CURVE 100A".
+fn asked(card: &[u8]) {
+    find(card, b"CURVE?");
+    find(card, b"*URVE *0A");
+    find(card, b"?");
+    find(card, b"");
+    list_from(card, 1);
+    list_from(card, 2);
+    list_from(card, 9);
+    list_from(card, 0);
+    locate_place(card, 1, 4);
+    locate_place(card, 1, 5);
+    locate_place(card, 2, 0);
+    locate_place(card, 3, 0);
+    show_nothing(card, 1);
+}
+
 // A day at the bench, as far as the books tell it: a curve is made, deleted, recovered; another takes no part of it; at last both are given back.
 fn day() {
     let fresh = mounted(formatted(4, 8));
@@ -178,6 +199,7 @@ fn day() {
     let other = create(b"another curve", twice, b"CURVE 100A", 5000, 0);
     let back = restore(b"recover", other, 1);
     let same = restore(b"recover again", back, 1);
+    asked(&same);
     let shut = protect(b"protect 4", same, 2, 4);
     let kept = remove(b"temporary delete of a protected file", shut, 2);
     let odd = protect(b"protect 5", kept, 2, 5);

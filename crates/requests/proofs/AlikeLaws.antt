@@ -1,26 +1,24 @@
 -- A file that two volumes have alike: show and read answer the same of it. Assumes nothing.
 use mathlib.Core.Path.{_≡_, refl, sym, ap, ap₂, _∙_}
 use mathlib.Core.Logic.{inl, inr, _≢_}
-use mathlib.Core.Bool.{Bool, cond}
+use mathlib.Core.Bool.{Bool}
 use mathlib.Core.List.{List, [], _∷_, _++_}
-use Prim.Native.Nat.{ℕ, zero, suc, _+_, _-_, _*_, _/_, _%_, _≤_, _<_}
-use native.Mathlib.Decide.{decLe}
+use Prim.Native.Nat.{ℕ, zero, suc, _+_, _*_, _/_, _%_, _≤_, _<_}
 use native.Mathlib.Omega.{arith}
-use borrow.Author.Tests.{le-leb, lt-leb}
-use lib.Dec.{leb}
 use lib.ListN.{length}
 use Rattle.field.specs.Parts.{over}
 use Rattle.tables.specs.declared.places.Places.{Places}
 use Rattle.tables.specs.Gates.{Test, asks, Gate}
-use Rattle.tables.specs.Indexes.{lengthOf, attributeOf}
+use Rattle.tables.specs.Indexes.{wordOf, lengthOf, attributeOf}
 use Rattle.tables.specs.Places.{placesOf}
 use Rattle.tables.specs.Rules.R1.{ceil}
 use Rattle.tables.specs.Rules.R8.{fileSectors}
 use Rattle.tables.specs.Rules.R9.{deletedBit}
 use Rattle.tables.specs.Sector1.{flagOf}
 use Rattle.tables.specs.Views.{viewOf, Parent}
-use Rattle.tables.proofs.GateLaws.{gate-rest, gate-front, gate-head}
+use Rattle.allocation.proofs.ChangeLaws.{parent-file}
 use Rattle.files.specs.Moves.{moved, fetched}
+use Rattle.files.specs.Unchanged.{Untouched}
 use Rattle.files.proofs.UntouchedLaws.{other-table, other-parent, other-sectors}
 use Rattle.requests.specs.declared.amount.Amount.{Amount}
 use Rattle.requests.specs.declared.answer.Answer.{Answer}
@@ -28,16 +26,16 @@ use Rattle.requests.specs.Answers.{after, numberOf, answerOf, useTests}
 use Rattle.requests.specs.Body.{bodyTests}
 use Rattle.requests.specs.Create.{argumentTests}
 use Rattle.requests.specs.Format.{sizeOf}
-use Rattle.requests.specs.Locate.{sectorOf, HasSector}
+use Rattle.requests.specs.Locate.{sectorOf}
 use Rattle.requests.specs.Named.{fileBytes, namedTests, usableTests}
-use Rattle.requests.specs.Read.{endOf, wholeSectors, MoveAllowed, readTests, readAmount, readOut, ReadOut}
+use Rattle.requests.specs.Read.{endOf, readTests, readAmount, readOut, ReadOut}
 use Rattle.requests.specs.Show.{showTests, bytesOf, Shown}
 use Rattle.requests.specs.History.{Volume, seen, Sound, write, Does, bytesAt}
 use Rattle.requests.proofs.StepSound.{step-places, step-sound}
-use Rattle.requests.proofs.StepFrame.{step-untouched}
+use Rattle.requests.proofs.StepWrite.{wrote-steady}
 use Rattle.requests.proofs.HistoryLaws.{other-bytes}
-use Rattle.requests.proofs.SteadyLaws.{Steady, write-steady}
-use Rattle.requests.proofs.NamedLaws.{body-usable, usable-active}
+use Rattle.requests.proofs.LocateLaws.{show-asks}
+use Rattle.requests.proofs.ReadLaws.{read-parent, read-moves}
 
 -- ---- tests that say the same
 
@@ -66,10 +64,6 @@ same-number (t ∷ ts) (u ∷ us) r s e (inl h) (inl k) = same-number ts us r s 
 same-number (t ∷ ts) (u ∷ us) r s e (inl h) (inr k) = absurd (k .0 (e .1 (h .0)))
 same-number (t ∷ ts) (u ∷ us) r s e (inr h) (inl k) = absurd (h .0 (e .2 (k .0)))
 same-number (t ∷ ts) (u ∷ us) r s e (inr h) (inr k) = h .1 ∙ e .0 ∙ sym (k .1)
-
--- the smaller of two numbers
-lesser : (m n : ℕ) → cond (leb m n) m n ≤ n
-lesser m n = elim (decLe m n) [ yes l ↦ rw (le-leb m n l) l | no h ↦ rw (lt-leb m n (omega arith)) (omega arith) ]
 
 -- ---- the file
 
@@ -116,11 +110,9 @@ module _ (v w : Volume) (g : ℕ) (a : SameFile v w g) where
   show-number k r s = same-number _ _ r s (same-use _ _ (same-body 8 _ _ (λ parent. same-last 14 _ _ (λ l. omega (arith, a .sectors parent)) (λ l. omega (arith, a .sectors parent)))))
 
   show-bytes : (k n : ℕ) → Gate (showTests (v .books) (v .body) g k) n → bytesOf n (v .body) (sectorOf (v .books) g k) ≡ bytesOf n (w .body) (sectorOf (w .books) g k)
-  unfolding showTests
   show-bytes k zero gate =
-      let rest = gate-rest (useTests (v .books)) _ gate in
-      let parent = usable-active 8 (v .books) g (body-usable 8 (v .books) (v .body) g (gate-front (bodyTests 8 (v .books) (v .body) g) _ rest) .1) .0 in
-      sym (a .data' parent k (gate-head 14 (HasSector (v .books) g k) [] (gate-rest (bodyTests 8 (v .books) (v .body) g) _ rest) .0))
+      let q = show-asks (v .books) (v .body) g k 0 gate refl (placesOf (v .books)) refl .1 in
+      sym (a .data' (q .0) k (q .1))
   show-bytes k (suc n) gate = refl
 
   pub shows-same : (k : ℕ) (y z : List ℕ) → Shown (v .books) (v .body) g k y → Shown (w .books) (w .body) g k z → y ≡ z
@@ -137,26 +129,10 @@ module _ (v w : Volume) (g : ℕ) (a : SameFile v w g) where
     unfolding readAmount
     amount-same at long = rw end-same
 
-    -- what is read lies within the file's sectors
-    amount-within : (at long : ℕ) → at < endOf (v .books) g → at / 1024 + readAmount (v .books) g at long / 1024 ≤ fileSectors (seen v) g
-    unfolding readAmount
-    amount-within at long l =
-        let f = a .was .good .lawful .r8 g (omega (arith, parent .high)) (parent .low) (parent .word) in
-        omega (arith, f .most, lesser (wholeSectors long) (endOf (v .books) g - at))
-
   read-number : (position long : Amount) (room r s : ℕ) → Gate (readTests (v .books) (v .body) g position long room) r
       → Gate (readTests (w .books) (w .body) g position long room) s → r ≡ s
   unfolding readTests argumentTests useTests
   read-number position long room r s = same-number _ _ r s (same-use _ _ (same-more 7 _ _ _ _ (λ m. m) (λ m. m) (λ m. same-body 8 _ _ (λ parent. same-last 14 _ _ (λ l. rw (end-same parent) l) (λ l. rw (end-same parent) at l)))))
-
-  -- where no number applies the file is there, and the position before its end
-  read-parent : (position long : Amount) (room : ℕ) → Gate (readTests (v .books) (v .body) g position long room) 0 → Parent (seen v) g × (sizeOf position < endOf (v .books) g)
-  unfolding readTests
-  read-parent position long room gate =
-      let rest = gate-rest (argumentTests (v .books) (MoveAllowed position long room)) _ gate in (
-        usable-active 8 (v .books) g (body-usable 8 (v .books) (v .body) g (gate-front (bodyTests 8 (v .books) (v .body) g) _ rest) .1) .0,
-        gate-head 14 (sizeOf position < endOf (v .books) g) [] (gate-rest (bodyTests 8 (v .books) (v .body) g) _ rest) .0,
-      )
 
   -- the sectors moved are the same
   fetched-same : (k : ℕ) (x : Bool) (out : List ℕ) (n : ℕ) → Parent (seen v) g → k + n ≤ fileSectors (seen v) g → fetched (seen v) g k x (v .body) out n ≡ fetched (seen w) g k x (w .body) out n
@@ -174,16 +150,15 @@ module _ (v w : Volume) (g : ℕ) (a : SameFile v w g) where
 
     read-answer : (n : ℕ) → Gate (readTests (v .books) (v .body) g position long (length out)) n
         → answerOf n (readAmount (v .books) g at asked) ≡ answerOf n (readAmount (w .books) g at asked)
-    read-answer zero gate = ap (answerOf 0) (amount-same (read-parent position long (length out) gate .0) at asked)
+    read-answer zero gate = ap (answerOf 0) (amount-same (read-parent (v .books) (v .body) g position long (length out) 0 gate refl (placesOf (v .books)) refl) at asked)
     read-answer (suc n) gate = refl
 
     read-bytes : (n : ℕ) → Gate (readTests (v .books) (v .body) g position long (length out)) n
         → after n (readOut (v .books) (v .body) g at (readAmount (v .books) g at asked) x out) out
         ≡ after n (readOut (w .books) (w .body) g at (readAmount (w .books) g at asked) x out) out
     read-bytes zero gate =
-        let h = read-parent position long (length out) gate in
-        fetched-same (at / 1024) x out _ (h .0) (amount-within (h .0) at asked (h .1))
-        ∙ ap (λ (n : ℕ). readOut (w .books) (w .body) g at n x out) (amount-same (h .0) at asked)
+        let m = read-moves (v .books) (v .body) g position long (length out) 0 gate refl (placesOf (v .books)) refl at refl asked _ refl refl in
+        fetched-same (at / 1024) x out _ (m .parent) (m .within) ∙ ap (λ (n : ℕ). readOut (w .books) (w .body) g at n x out) (amount-same (m .parent) at asked)
     read-bytes (suc n) gate = refl
 
     pub reads-same : (r s : Answer) (y z : List ℕ) → ReadOut (v .books) (v .body) g position long x out r y → ReadOut (w .books) (w .body) g position long x out s z → (r ≡ s) × (y ≡ z)
@@ -197,21 +172,28 @@ module _ (v w : Volume) (g : ℕ) (a : SameFile v w g) where
 -- ---- a file that a write does not name
 
 module _ (v w : Volume) (sound : Sound v) (f : ℕ) (position long : Amount) (x : Bool) (input date : List ℕ) (d : Does (write f position long x input date) v w) (g : ℕ) (other : g ≢ f) where
-  steady : (q : Places) → q ≡ placesOf (v .books) → Steady f (seen v) (viewOf q (w .books))
-  steady q e = rw e (write-steady (v .books) (v .body) f position long (length input) date (sound .good) (numberOf (d .0)) (w .books) (d .1 .number) (d .1 .books))
+  untouched : (q : Places) → q ≡ placesOf (v .books) → Untouched (seen v) (viewOf q (w .books)) f
+  untouched q e = rw e (wrote-steady v w f position long x input date (d .0) (d .1) (sound .good) .0)
+
+  -- a file afterwards was one before
+  stood : Untouched (seen v) (seen w) f → Parent (seen w) g → Parent (seen v) g
+  stood u h =
+      let high : g ≤ seen v .indexes = rw (u .indexes) at (h .high) in
+      let is = parent-file (seen w) g h in
+      record { low = h .low; high = high; word = sym (ap wordOf (u .now g (h .low) high (λ z. omega (arith, is, h .low)) (λ z. other (sym is ∙ z)))) ∙ h .word }
 
   pub wrote-same : SameFile v w g
   wrote-same =
       let q = write f position long x input date in
-      let u = step-untouched v w sound q d in
-      let s = steady (placesOf (w .books)) (step-places v w sound q d) in
+      let u = untouched (placesOf (w .books)) (step-places v w sound q d) in
+      let old = sound .good in
       record {
         was = sound;
         now = step-sound v w sound q d;
-        flag = s .flag;
-        stood = s .only g other;
-        stands = λ h. other-parent (placesOf (v .books)) (v .books) (sound .good .layout) (sound .good .lawful) (seen w) (u .0) (u .1) g h (u .2 g h other);
-        table = λ h. other-table (placesOf (v .books)) (v .books) (sound .good .layout) (sound .good .lawful) (seen w) (u .0) (u .1) g h (u .2 g h other);
-        sectors = λ h. other-sectors (placesOf (v .books)) (v .books) (sound .good .layout) (sound .good .lawful) (seen w) (u .0) (u .1) g h (u .2 g h other);
+        flag = wrote-steady v w f position long x input date (d .0) (d .1) old .1;
+        stood = stood u;
+        stands = λ h. other-parent (placesOf (v .books)) (v .books) (old .layout) (old .lawful) (seen w) f u g h other;
+        table = λ h. other-table (placesOf (v .books)) (v .books) (old .layout) (old .lawful) (seen w) f u g h other;
+        sectors = λ h. other-sectors (placesOf (v .books)) (v .books) (old .layout) (old .lawful) (seen w) f u g h other;
         data' = λ h. other-bytes v w sound q d g h other;
       }

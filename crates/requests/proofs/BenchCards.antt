@@ -3,7 +3,6 @@ use mathlib.Core.Path.{_≡_, refl, sym, ap, _∙_}
 use mathlib.Core.List.{List, [], _∷_}
 use mathlib.Core.Bool.{Bool, true, false}
 use Prim.Native.Nat.{ℕ, zero, suc, _+_, _-_, _*_, _%_, _≤_, _<_}
-use native.Mathlib.Decide.{ℕ-discrete}
 use native.Mathlib.Omega.{arith}
 use borrow.Author.Tests.{ltb-true, leb-true, leb-false}
 use lib.Dec.{ltb, leb}
@@ -35,27 +34,19 @@ use Rattle.tables.specs.Rules.R1.{Stand}
 use Rattle.tables.proofs.GateLaws.{gate-fails, gate-passes, gate-end, gate-skip, good-gate}
 use Rattle.tables.proofs.SameLaws.{same-ground}
 use Rattle.tables.proofs.RoomLaws.{supply-enough}
-use Rattle.allocation.specs.declared.growth.Cursor.{Cursor}
-use Rattle.allocation.specs.declared.tail.Tail.{Tail}
 use Rattle.allocation.specs.Search.{find}
 use Rattle.allocation.specs.Choice.{inOrder, inTurn, nextBlock}
 use Rattle.allocation.specs.Last.{usedPointers}
 use Rattle.allocation.specs.Lengthened.{sectorsIn}
 use Rattle.allocation.specs.NewLawful.{NewLawful}
 use Rattle.allocation.specs.NewTables.{New}
-use Rattle.allocation.specs.Growth.{Growth, pointed, addBlock}
 use Rattle.allocation.specs.Tails.{noPointer}
 use Rattle.allocation.specs.Stock.{Stocked}
 use Rattle.allocation.specs.Ready.{Ready}
 use Rattle.allocation.specs.Files.{Provided, started, created}
-use Rattle.allocation.proofs.TurnLaws.{turn-none, turn-step}
-use Rattle.allocation.proofs.TakenLaws.{block-files}
 use Rattle.allocation.proofs.OrderLaws.{order-typed, order-enough}
 use Rattle.allocation.proofs.NextGround.{ground-sym, ground-trans, enough-ground}
 use Rattle.allocation.proofs.FileLaws.{provided-head, started-made, ready-start}
-use Rattle.allocation.proofs.ReadyLaws.{Taking, add-is, laid-is, here-is, further-is, pointed-here, pointed-further, here-written, further-extended, ready-proper, step-taking, ready-step}
-use Rattle.allocation.proofs.HeldLawful.{quiet-good}
-use Rattle.allocation.proofs.CreatedLawful.{created-lawful, created-quiet}
 use Rattle.allocation.proofs.ViewGrowth.{addView, startedView, tables-shown}
 use Rattle.allocation.proofs.FreshView.{freshView, createdView, created-is, Staged, staged-created, staged-fresh, staged-flag}
 use Rattle.files.specs.declared.spot.Spot.{Spot}
@@ -72,6 +63,8 @@ use Rattle.requests.specs.Named.{fileBytes, namedTests, usableTests}
 use Rattle.requests.specs.Read.{wholeSectors, endOf, MoveAllowed, readTests, readAmount, readOut, ReadOut}
 use Rattle.requests.proofs.FormatRequestLaws.{formatted-good}
 use Rattle.requests.proofs.MountKeeps.{flag-put, flag-keeps}
+use Rattle.requests.proofs.CreateKeeps.{made-keeps}
+use Rattle.requests.proofs.FlagLaws.{flag-turn}
 
 -- ---- what the cards read
 
@@ -318,26 +311,7 @@ ready5 = ready-start (freshPlaces 4 8) (fresh 5120 4) (countsOf 252 5000) (file 
 
 good5 : Good after5 (freshPlaces 4 8)
 unfolding after5 withFile
-good5 =
-    let p = freshPlaces 4 8 in
-    let b = fresh 5120 4 in
-    quiet-good b after5 p good4 (created-quiet p b (file 5000) (countsOf 252 5000) provided5 file-lawful ready5)
-    (created-lawful p b (file 5000) (countsOf 252 5000) provided5 file-lawful ready5)
-
--- a file's blocks leave the flag
-flag-pointed : (p : Places) (f : ℕ) (b : List ℕ) (c : Cursor) (l : Tail) (ts : List ℕ) → Taking p f b c l ts → flagOf (pointed p f b c l .books) ≡ flagOf b
-flag-pointed p f b c l ts h = elim (ℕ-discrete (l .tables) (c .tail .tables)) [
-  | yes e ↦ rw (pointed-here p f b c l e, here-is p f b c l) (here-written p f b c l ts h .counts .flag)
-  | no ne ↦ rw (pointed-further p f b c l ne, further-is p f b c l) (further-extended p f b c l ts h ne .counts .flag)
-]
-
-flag-turn : (p : Places) (f : ℕ) (g : Growth) (ts : List ℕ) → Ready p f g ts → flagOf (inTurn (addBlock p f) ts g .books) ≡ flagOf (g .books)
-flag-turn p f g [] h = rw (turn-none (addBlock p f) g) refl
-flag-turn p f g (t ∷ ts) h =
-    let k = nextBlock (viewOf p (g .books)) t in
-    let add : flagOf (addBlock p f t g .books) ≡ flagOf (g .books) = rw (add-is p f t g, laid-is p f t k g)
-    (flag-pointed p f _ (g .cursor) _ ts (step-taking p f g t ts h) ∙ block-files p (g .books) t k (h .layout) (ready-proper p f g t ts h) .counts .flag) in
-    rw (turn-step (addBlock p f) t ts g) (flag-turn p f (addBlock p f t g) ts (ready-step p f g t ts h) ∙ add)
+good5 = made-keeps (fresh 5120 4) (freshPlaces 4 8) (file 5000) (countsOf 252 5000) good4 provided5 file-lawful
 
 flag5 : flagOf after5 ≡ 1
 unfolding after5 withFile fresh putFlag

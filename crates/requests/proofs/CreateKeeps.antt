@@ -35,28 +35,33 @@ use Rattle.requests.specs.declared.create.Created.{Created}
 use Rattle.requests.specs.Format.{sizeOf}
 use Rattle.requests.specs.Create.{argumentTests, NewFile, numberOf, Creates, attributeFor, FixedAllowed, countsFor, CreatedFixed, cellType, VariableAllowed, CreatedVariable}
 use Rattle.requests.specs.Named.{fileBytes}
-use Rattle.requests.specs.Grow.{GrowAllowed, growCounts, lackTests, growTests, grownTo, Grew}
+use Rattle.requests.specs.Grow.{growCounts, lackTests, growTests, grownTo, Grew}
 use Rattle.requests.proofs.MountKeeps.{done-keeps}
 use Rattle.requests.proofs.CreateLaws.{argument-allowed, room-provides}
-use Rattle.requests.proofs.GrowLaws.{lack-provided, not-below, grow-parent, grow-variable, grow-room}
+use Rattle.requests.proofs.GrowLaws.{lack-provided, not-below, grow-allows, grow-parent, grow-variable, grow-room}
 
 -- ---- a new file
 
-made-keeps : (b : List ℕ) (p : Places) (n : New) (counts : List ℕ) → Good b p → Provided p b noPointer counts → NewLawful n counts → Good (created p b n counts) p
+pub made-keeps : (b : List ℕ) (p : Places) (n : New) (counts : List ℕ) → Good b p → Provided p b noPointer counts → NewLawful n counts → Good (created p b n counts) p
 made-keeps b p n counts g h new =
     let ready = ready-start p b counts n h (new .name .most) (new .date .long) in
     quiet-good b (created p b n counts) p g (created-quiet p b n counts h new ready) (created-lawful p b n counts h new ready)
 
--- both creates: where the arguments are allowed, the file is lawful
-pub creates-keeps : (b : List ℕ) (P : Type 0) (counts : List ℕ) (n : New) (r : Created) (b' : List ℕ) (p : Places)
+-- both creates, done: where the arguments are allowed the file is lawful, and there is all that it takes
+pub creates-asks : (b : List ℕ) (P : Type 0) (counts : List ℕ) (n : New) (r : Created) (b' : List ℕ) → Good b (placesOf b) → (P → NewLawful n counts × (length counts ≡ 6))
+    → Creates b P counts n r b' → numberOf r ≡ 0 → NewLawful n counts × Provided (placesOf b) b noPointer counts
+creates-asks b P counts n r b' g new h z =
+    let q = rw z at (h .number) in
+    let a = new (argument-allowed b P 0 (gate-front (argumentTests b P) _ q) refl) in
+    (a .0, room-provides b (placesOf b) noPointer counts 0 g (a .1) (gate-rest (argumentTests b P) _ q) refl)
+
+creates-keeps : (b : List ℕ) (P : Type 0) (counts : List ℕ) (n : New) (r : Created) (b' : List ℕ) (p : Places)
     → (P → NewLawful n counts × (length counts ≡ 6)) → Creates b P counts n r b' → Good b p → Good b' p
 creates-keeps b P counts n r b' p new h g =
     done-keeps (numberOf r) (created (placesOf b) b n counts) b b' p (h .books) (λ z.
-    (let q = rw z at (h .number) in
-    let a = new (argument-allowed b P 0 (gate-front (argumentTests b P) _ q) refl) in
-    let here : Good b (placesOf b) = rw (g .places) at g in
-    let provided = room-provides b (placesOf b) noPointer counts 0 here (a .1) (gate-rest (argumentTests b P) _ q) refl in
-    rw (g .places) (made-keeps b (placesOf b) n counts here provided (a .0)))) g
+    (let here : Good b (placesOf b) = rw (g .places) at g in
+    let a = creates-asks b P counts n r b' here new h z in
+    rw (g .places) (made-keeps b (placesOf b) n counts here (a .1) (a .0)))) g
 
 -- the weights of its attribute: not deleted, variable size as is said, one kind at most
 new-lawful : (name : List ℕ) (kind : ℕ) (date : List ℕ) (variable long : ℕ) (counts : List ℕ) → NewFile name kind date → variable ≤ 1 → long < 2147483648
@@ -83,7 +88,7 @@ unfolding sectorsIn
 sectors-some [] h = absurd (omega arith)
 sectors-some (t ∷ ts) h = omega arith
 
-fixed-lawful : (name : List ℕ) (size : Amount) (types : Chosen) (kind : ℕ) (date : List ℕ) → FixedAllowed name size types kind date
+pub fixed-lawful : (name : List ℕ) (size : Amount) (types : Chosen) (kind : ℕ) (date : List ℕ) → FixedAllowed name size types kind date
     → NewLawful (record { name = name; date = date; length = sizeOf size; attribute = attributeFor 0 kind }) (countsFor types size) × (length (countsFor types size) ≡ 6)
 fixed-lawful name Below types kind date a = absurd (a .size')
 fixed-lawful name (Is n) Bad kind date a = absurd (a .types')
@@ -103,7 +108,7 @@ fixed-keeps b name size types kind date r b' p = creates-keeps b _ _ _ r b' p (f
 
 -- ---- create variable
 
-variable-lawful : (name : List ℕ) (cell : Amount) (kind : ℕ) (date : List ℕ) → VariableAllowed name cell kind date
+pub variable-lawful : (name : List ℕ) (cell : Amount) (kind : ℕ) (date : List ℕ) → VariableAllowed name cell kind date
     → NewLawful (record { name = name; date = date; length = 0; attribute = attributeFor 1 kind }) (onlyCounts (cellType cell) 1) × (length (onlyCounts (cellType cell) 1) ≡ 6)
 variable-lawful name cell kind date a =
     let t = cellType cell in
@@ -145,15 +150,11 @@ module _ (b : List ℕ) (id long : ℕ) (date : List ℕ) (g : Good b (placesOf 
     | no nl ↦ rw (le-ltb (lengthOf (fileBytes b id)) long (omega arith)) g
   ]
 
-grow-allowed : (b : List ℕ) (id : ℕ) (long : Amount) (date : List ℕ) → Gate (growTests b id long date) 0 → GrowAllowed long date
-unfolding growTests
-grow-allowed b id long date h = argument-allowed b (GrowAllowed long date) 0 (gate-front (argumentTests b (GrowAllowed long date)) _ h) refl
-
 -- README's promise 3, "the nine book rules still hold": after grow
 pub grew-keeps : (b : List ℕ) (id : ℕ) (long : Amount) (date : List ℕ) (r : ℕ) (b' : List ℕ) (p : Places) → Grew b id long date r b' → Good b p → Good b' p
 grew-keeps b id long date r b' p h g =
     done-keeps r (grownTo b id (sizeOf long) date) b b' p (h .books) (λ z.
     (let q : Gate (growTests b id long date) 0 = rw z at (h .number) in
-    let a = grow-allowed b id long date q in
+    let a = grow-allows b id long date 0 q refl in
     rw (g .places) (grown-keeps b id (sizeOf long) date (rw (g .places) at g) (grow-parent b id long date 0 q refl) (grow-room b id long date 0 q refl (sizeOf long) refl) (a .date')
     (λ l. (grow-variable b id long date 0 q refl, omega (arith, not-below long (a .long'))))))) g

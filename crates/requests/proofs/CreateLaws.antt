@@ -1,27 +1,24 @@
 -- Both creates: each way out, and that their promise allows one result. Assumes nothing.
 use mathlib.Core.Path.{_≡_, refl, sym, ap, _∙_}
-use mathlib.Core.Logic.{_⊎_, inl, inr, _≢_}
+use mathlib.Core.Logic.{_≢_}
 use mathlib.Core.Bool.{Bool, not, true, false}
-use mathlib.Core.List.{List, [], _∷_, _++_}
+use mathlib.Core.List.{List, [], _∷_}
 use Prim.Native.Nat.{ℕ, zero, suc, _+_, _*_, _≤_, _<_}
 use native.Mathlib.Omega.{arith}
-use lib.Dec.{leb}
 use lib.ListN.{length}
-use borrow.Author.Tests.{leb-true}
 use Rattle.field.specs.Says.{Says}
 use Rattle.field.proofs.Tests.{passed, refused, says-map}
 use Rattle.tables.specs.declared.kinds.Index.{Index}
 use Rattle.tables.specs.declared.places.Places.{Places}
 use Rattle.tables.specs.Dates.{Date}
 use Rattle.tables.specs.Names.{NewName}
-use Rattle.tables.specs.Places.{placesOf, Layout}
-use Rattle.tables.specs.Sector1.{freeOf, firstFreeOf, flagOf}
-use Rattle.tables.specs.Gates.{Test, asks, Gate}
-use Rattle.tables.specs.Books.{Good, bookTests}
-use Rattle.tables.specs.Lawful.{Lawful}
+use Rattle.tables.specs.Places.{placesOf}
+use Rattle.tables.specs.Sector1.{freeOf, firstFreeOf}
+use Rattle.tables.specs.Gates.{asks, Gate}
+use Rattle.tables.specs.Books.{Good}
 use Rattle.tables.specs.Room.{countAt, Supply, Enough}
 use Rattle.tables.specs.Views.{viewOf}
-use Rattle.tables.proofs.GateLaws.{gate-one, gate-fails, gate-passes, gate-end, gate-stop, gate-skip, gate-rest, gate-head, gate-front, gate-swap, zero-good}
+use Rattle.tables.proofs.GateLaws.{gate-one, gate-fails, gate-passes, gate-end, gate-stop, gate-skip, gate-rest, gate-head, gate-front, gate-swap}
 use Rattle.tables.proofs.RoomLaws.{supply-enough, enough-supply}
 use Rattle.allocation.specs.declared.tail.Tail.{Tail}
 use Rattle.allocation.specs.Choice.{inOrder}
@@ -32,9 +29,10 @@ use Rattle.allocation.proofs.FileLaws.{plannable-start}
 use Rattle.allocation.specs.Files.{TablesEnough, Provided, created}
 use Rattle.requests.specs.declared.create.Created.{Created}
 use Rattle.requests.specs.declared.create.Created.the-variants.{Done, Refused}
-use Rattle.requests.specs.Answers.{after, useTests}
+use Rattle.requests.specs.Answers.{useTests}
 use Rattle.requests.specs.Create.{argumentTests, roomTests, NewFile, numberOf, answerOf, MakesFile, Creates}
-use Rattle.requests.proofs.RequestLaws.{after-refused, after-one, good-room}
+use Rattle.requests.proofs.RequestLaws.{after-one, good-room}
+use Rattle.requests.proofs.MountLaws.{use-good}
 
 -- ---- the books, once they are judged
 
@@ -71,8 +69,11 @@ module _ (b : List ℕ) where
   argument-allowed P n g e = gate-head 7 P [] (gate-rest (useTests b) (asks 7 P ∷ []) (rw e at g)) .0
 
   pub argument-good : (P : Type 0) (n : ℕ) → Gate (argumentTests b P) n → n ≡ 0 → Good b (placesOf b)
-  unfolding argumentTests useTests
-  argument-good P n g e = zero-good b (gate-front (bookTests b) _ (gate-front (useTests b) (asks 7 P ∷ []) (rw e at g)))
+  unfolding argumentTests
+  argument-good P n g e = use-good b 0 (gate-front (useTests b) (asks 7 P ∷ []) (rw e at g)) refl (placesOf b) refl
+
+  pub argued-good : (P : Type 0) (n : ℕ) (p : Places) → Gate (argumentTests b P) n → n ≡ 0 → p ≡ placesOf b → Good b p
+  argued-good P n p g e is = good-at b p (argument-good P n g e) is
 
   pub argument-room : (P : Type 0) (n : ℕ) → Gate (argumentTests b P) n → n ≡ 0 → 2048 ≤ length b
   argument-room P n g e = good-room b (placesOf b) (argument-good P n g e)

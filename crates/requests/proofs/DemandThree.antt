@@ -32,11 +32,11 @@ use Rattle.requests.specs.Read.{ReadOut}
 use Rattle.requests.specs.Show.{Shown}
 use Rattle.requests.specs.State.{removed, recovered, protected}
 use Rattle.requests.specs.History.{Volume, seen, Sound, Changes, temporaryDelete, recover, setProtection, write, Does, Step, History, namedBy, Belongs, bytesAt, PutsIn, Deletes, SparedIn}
-use Rattle.requests.proofs.StateKeeps.{removed-keeps, recovered-keeps, protected-keeps}
+use Rattle.requests.proofs.StateKeeps.{removed-keeps, recovered-keeps, protected-keeps, after-pointer}
 use Rattle.requests.proofs.StepSound.{step-sound}
 use Rattle.requests.proofs.StepFrame.{step-untouched, step-bytes, step-puts}
 use Rattle.requests.proofs.HistoryLaws.{other-bytes, step-place, sound-after, spared-stays, free-short}
-use Rattle.requests.proofs.StampLaws.{removed-pointer, recovered-pointer, protected-pointer, after-pointer}
+use Rattle.requests.proofs.StampLaws.{removed-restates, recovered-restates, protected-restates}
 use Rattle.requests.proofs.AlikeLaws.{SameFile, shows-same, reads-same, wrote-same}
 
 module _ (v w : Volume) (start : Sound v) (h : History v w) where
@@ -79,13 +79,13 @@ module _ (v w : Volume) (start : Sound v) (h : History v w) where
   pub belongs-inside : (f k s : ℕ) → Belongs w f k s → (1024 ≤ s) × (s < 1024 * (seen w .zones - 1))
   belongs-inside f k s here = rw (here .here) at (kth-inside (placesOf (w .books)) (w .books) layout lawful f (here .file) k (here .place))
 
-  -- ---- "no index chain is longer than the number of index tables": a parent and its m children, and m free tables
+  -- ---- "no index chain is longer than the number of index tables": a parent and its m children, and the m free tables
 
-  pub file-chain : (f m : ℕ) → Parent (seen w) f → FileChain (seen w) f m → suc m ≤ seen w .indexes
-  file-chain f m parent chain = file-short (seen w) f m parent chain
+  pub file-chain : (f : ℕ) → Parent (seen w) f → (m : ℕ) × FileChain (seen w) f m × (suc m ≤ seen w .indexes)
+  file-chain f parent = let chain = lawful .r5 .chain f parent in (lawful .r5 .long f, chain, file-short (seen w) f (lawful .r5 .long f) parent chain)
 
-  pub free-chain : (m : ℕ) → FreeChain (seen w) m → m ≤ seen w .indexes
-  free-chain m chain = free-short (seen w) m chain
+  pub free-chain : (m : ℕ) × FreeChain (seen w) m × (m ≤ seen w .indexes)
+  free-chain = (lawful .r4 .long, lawful .r4 .chain, free-short (seen w) (lawful .r4 .long) (lawful .r4 .chain))
 
   -- ---- "a request changes no index table and no data byte of a file it does not name"
 
@@ -122,6 +122,10 @@ module _ (v w : Volume) (start : Sound v) (h : History v w) where
       let q = spared-stays x y (step-sound w x still-sound (s .request) (s .does)) f k (p .0) (p .1) after spared in
       (p .0, q .0, q .1 ∙ p .2)
 
+  -- and so does every sector hold what it held, written or not, while nothing is put there and the file is not actually deleted
+  pub stays : (y : Volume) (f k n : ℕ) → Belongs w f k n → (after : History w y) → SparedIn after f k → Belongs y f k n × (sectorBytes (y .body) n ≡ sectorBytes (w .body) n)
+  stays y f k n here after spared = spared-stays w y still-sound f k n here after spared
+
   -- ---- for the person who reads only one line: two files share no sector, and a write to one changes nothing that the other gives
 
   pub apart : (f g k l : ℕ) → f ≢ g → Parent (seen w) f → Parent (seen w) g → k < fileSectors (seen w) f → l < fileSectors (seen w) g → kthSector (seen w) f k ≢ kthSector (seen w) g l
@@ -146,13 +150,13 @@ pointer b i j = let t = viewOf (placesOf b) b .table i in pointerAt t (baseOf i 
 
 module _ (b b' : List ℕ) (good : Good b (placesOf b)) (id w : ℕ) (date : List ℕ) (i j : ℕ) (low : 1 ≤ i) (high : i ≤ placesOf b .indexes) where
   pub removed-pointers : Changes (temporaryDelete id date) b b' → pointer b' i j ≡ pointer b i j
-  removed-pointers d = after-pointer (d .0) (removed (placesOf b) b id date) b b' i j (removed-keeps b id date (d .0) b' (placesOf b) (d .1) good) (d .1 .books)
-      (removed-pointer b good id date i j low (d .0) (d .1 .number))
+  removed-pointers d = after-pointer (d .0) (removed (placesOf b) b id date) b b' id i j low high good (removed-keeps b id date (d .0) b' (placesOf b) (d .1) good) (d .1 .books)
+      (removed-restates b good id date (d .0) (d .1 .number))
 
   pub recovered-pointers : Changes (recover id date) b b' → pointer b' i j ≡ pointer b i j
-  recovered-pointers d = after-pointer (d .0) (recovered (placesOf b) b id date) b b' i j (recovered-keeps b id date (d .0) b' (placesOf b) (d .1) good) (d .1 .books)
-      (recovered-pointer b good id date i j low (d .0) (d .1 .number))
+  recovered-pointers d = after-pointer (d .0) (recovered (placesOf b) b id date) b b' id i j low high good (recovered-keeps b id date (d .0) b' (placesOf b) (d .1) good) (d .1 .books)
+      (recovered-restates b good id date (d .0) (d .1 .number))
 
   pub protected-pointers : Changes (setProtection id w date) b b' → pointer b' i j ≡ pointer b i j
-  protected-pointers d = after-pointer (d .0) (protected (placesOf b) b id w date) b b' i j (protected-keeps b id w date (d .0) b' (placesOf b) (d .1) good) (d .1 .books)
-      (protected-pointer b good id date i j low w (d .0) (d .1 .number))
+  protected-pointers d = after-pointer (d .0) (protected (placesOf b) b id w date) b b' id i j low high good (protected-keeps b id w date (d .0) b' (placesOf b) (d .1) good) (d .1 .books)
+      (protected-restates b good id date (d .0) w (d .1 .number))

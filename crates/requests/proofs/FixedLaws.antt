@@ -6,7 +6,6 @@ use mathlib.Core.List.{List}
 use Prim.Native.Nat.{ℕ, _+_, _*_, _%_, _≤_, _<_}
 use native.Mathlib.Omega.{arith}
 use lib.Dec.{eqb, leb}
-use lib.ListN.{length, replicate}
 use borrow.Author.Tests.{leb-true, leb-false, eq-eqb, ne-eqb}
 use Rattle.field.specs.Says.{Says}
 use Rattle.field.proofs.Tests.{passed, refused, says-map}
@@ -65,12 +64,6 @@ module _ (types : Chosen) where
   -- ---- counts
 
   module _ (size : Amount) where
-    pub counts-bad : types ≡ Bad → replicate 6 0 ≡ countsFor types size
-    counts-bad e = rw e
-
-    pub counts-below : (w : ℕ) → types ≡ Types w → size ≡ Below → replicate 6 0 ≡ countsFor types size
-    counts-below w e s = rw (e, s)
-
     pub counts-asks : (w n : ℕ) → types ≡ Types w → size ≡ Is n → SizeAllowed size → FlagAllowed types → Countable w n
     counts-asks w n e s h f =
         let k : (1 ≤ n) × (n ≤ 2147483647) = rw s at h in

@@ -14,7 +14,7 @@ use Rattle.tables.specs.Dates.{Date}
 use Rattle.tables.specs.Books.{Sized, Good}
 use Rattle.tables.specs.Rules.R1.{Stand}
 use Rattle.tables.specs.Format.{Label, Formattable, Writable, freshPlaces, formatted}
-use Rattle.tables.proofs.GateLaws.{gate-one}
+use Rattle.tables.proofs.GateLaws.{gate-one, gate-head}
 use Rattle.tables.proofs.PlaceLaws.{stand-layout}
 use Rattle.tables.proofs.FormatLaws.{format-length, format-marked, format-places, format-placed, format-lawful}
 use Rattle.requests.specs.declared.amount.Amount.{Amount}
@@ -93,23 +93,11 @@ module _ (b : List ℕ) (z n : Amount) (application volume : List ℕ) (id : ℕ
 -- ---- the request
 
 -- number 0: all that the writing asks
-zero-sized : (b : List ℕ) (z n : Amount) (l : Label) (r : ℕ) → Gate (formatTests b z n l) r → r ≡ 0 → Sized b
-unfolding Gate
-zero-sized b z n l r (inl h) e = h .0
-zero-sized b z n l r (inr h) e = absurd (h .2 e)
-
-zero-fits : (b : List ℕ) (z n : Amount) (l : Label) (r : ℕ) → Gate (formatTests b z n l) r → r ≡ 0 → Fits (length b) z n
-unfolding Gate
-zero-fits b z n l r (inl (h, inl k)) e = k .0
-zero-fits b z n l r (inl (h, inr k)) e = absurd (k .2 e)
-zero-fits b z n l r (inr h) e = absurd (h .2 e)
-
-zero-writable : (b : List ℕ) (z n : Amount) (l : Label) (r : ℕ) → Gate (formatTests b z n l) r → r ≡ 0 → Writable l
-unfolding Gate
-zero-writable b z n l r (inl (h, inl (k, inl m))) e = m .0
-zero-writable b z n l r (inl (h, inl (k, inr m))) e = absurd (m .2 e)
-zero-writable b z n l r (inl (h, inr k)) e = absurd (k .2 e)
-zero-writable b z n l r (inr h) e = absurd (h .2 e)
+zero-passes : (b : List ℕ) (z n : Amount) (l : Label) (r : ℕ) → Gate (formatTests b z n l) r → r ≡ 0 → Sized b × (Fits (length b) z n × Writable l)
+zero-passes b z n l r g e =
+    let s = gate-head 1 (Sized b) _ (rw e at g) in
+    let f = gate-head 3 (Fits (length b) z n) _ (s .1) in
+    (s .0, (f .0, gate-head 7 (Writable l) _ (f .1) .0))
 
 pub format-refused : (b : List ℕ) (z n : Amount) (l : Label) (r : ℕ) → Gate (formatTests b z n l) r → r ≢ 0 → Formatted b z n l r b
 format-refused b z n l r g h = record { number = g; books = after-refused r _ b h }
@@ -117,8 +105,8 @@ format-refused b z n l r g h = record { number = g; books = after-refused r _ b 
 pub format-asks : (b : List ℕ) (z n : Amount) (l : Label) (r x y : ℕ) → Gate (formatTests b z n l) r → r ≡ 0 → x ≡ sizeOf z → y ≡ sizeOf n
     → Formattable (length b) x y × (((5120 ≤ length b) × (length b ≤ 1048576)) × Writable l)
 format-asks b z n l r x y g e d f =
-    let s = zero-sized b z n l r g e in
-    (rw (d, f) (fits-sizes (length b) z n (zero-fits b z n l r g e)), ((s .least, s .most), zero-writable b z n l r g e))
+    let a = zero-passes b z n l r g e in
+    (rw (d, f) (fits-sizes (length b) z n (a .1 .0)), ((a .0 .least, a .0 .most), a .1 .1))
 
 pub format-done : (b b' : List ℕ) (z n : Amount) (l : Label) (r x y : ℕ) → Gate (formatTests b z n l) r → r ≡ 0 → x ≡ sizeOf z → y ≡ sizeOf n
     → b' ≡ formatted (length b) x y l → Formatted b z n l 0 b'
@@ -146,6 +134,5 @@ fresh-good b z n l s f w =
 
 pub formatted-good : (b : List ℕ) (z n : Amount) (l : Label) (b' : List ℕ) → Formatted b z n l 0 b' → Good b' (freshPlaces (sizeOf z) (sizeOf n))
 formatted-good b z n l b' f =
-    let g = f .number in
-    let h = fits-sizes (length b) z n (zero-fits b z n l 0 g refl) in
-    rw (f .books) (fresh-good b (sizeOf z) (sizeOf n) l (zero-sized b z n l 0 g refl) h (zero-writable b z n l 0 g refl))
+    let a = zero-passes b z n l 0 (f .number) refl in
+    rw (f .books) (fresh-good b (sizeOf z) (sizeOf n) l (a .0) (fits-sizes (length b) z n (a .1 .0)) (a .1 .1))

@@ -2,7 +2,7 @@
 use mathlib.Core.Path.{_≡_, refl, sym, ap, _∙_}
 use mathlib.Core.Logic.{inl, inr, _≢_}
 use mathlib.Core.Bool.{Bool, true}
-use mathlib.Core.List.{List, []}
+use mathlib.Core.List.{List, [], _++_}
 use Prim.Native.Nat.{ℕ, _/_, _%_, _≤_, _<_}
 use native.Mathlib.Omega.{arith}
 use lib.ListN.{length}
@@ -101,22 +101,6 @@ module _ (b : List ℕ) (id long : ℕ) where
     unfolding fileTests
     file-lack r z l = gate-skip (namedTests b id) _ n r h e (gate-skip (kindTests b id) _ k r q z l)
 
-  -- where none of them applies
-  module _ (g : Good b (placesOf b)) (h : Gate (fileTests b id long) 0) where
-    file-parent : Parent (viewOf (placesOf b) b) id
-    unfolding fileTests
-    file-parent = named-parent b id (placesOf b) 0 g (gate-front (namedTests b id) _ h) refl
-
-    file-variable : variableBit (attributeOf (fileBytes b id)) ≡ 1
-    unfolding fileTests kindTests
-    file-variable =
-        let k = gate-front (kindTests b id) _ (gate-rest (namedTests b id) _ h) in
-        gate-head 11 _ [] (gate-head 10 (Unprotected 4 b id) _ k .1) .0
-
-    file-room : Gate (lackTests b id long) 0
-    unfolding fileTests
-    file-room = gate-rest (kindTests b id) _ (gate-rest (namedTests b id) _ h)
-
   -- where neither 12 nor 13 applies, and the file becomes longer, there is all that it takes
   pub lack-provided : Good b (placesOf b) → Gate (lackTests b id long) 0 → lengthOf (fileBytes b id) < long → Provided (placesOf b) b (cursorOf (placesOf b) b id .tail) (growCounts b id long)
   unfolding lackTests roomTests
@@ -154,30 +138,38 @@ module _ (b : List ℕ) (id : ℕ) (long : Amount) (date : List ℕ) where
     unfolding growTests
     grow-goes r x e is h = gate-skip (argumentTests b (GrowAllowed long date)) _ n r (argument-says b a _ n s g) e (rw is at h)
 
-    pub grow-good : (p : Places) → n ≡ 0 → p ≡ placesOf b → Good b p
-    grow-good p e is = rw is (argument-good b _ n g e)
-
   module _ (n : ℕ) (g : Gate (growTests b id long date) n) (e : n ≡ 0) where
-    pub grow-books : Good b (placesOf b)
+    front : Gate (argumentTests b (GrowAllowed long date)) 0
     unfolding growTests
-    grow-books = argument-good b (GrowAllowed long date) 0 (gate-front (argumentTests b (GrowAllowed long date)) _ (rw e at g)) refl
+    front = gate-front (argumentTests b (GrowAllowed long date)) _ (rw e at g)
+
+    pub grow-books : Good b (placesOf b)
+    grow-books = argument-good b (GrowAllowed long date) 0 front refl
+
+    pub grow-allows : GrowAllowed long date
+    grow-allows = argument-allowed b (GrowAllowed long date) 0 front refl
 
     tests : Gate (fileTests b id (sizeOf long)) 0
     unfolding growTests
     tests = gate-rest (argumentTests b (GrowAllowed long date)) _ (rw e at g)
 
     pub grow-parent : Parent (viewOf (placesOf b) b) id
-    grow-parent = file-parent b id (sizeOf long) grow-books tests
+    unfolding fileTests
+    grow-parent = named-parent b id (placesOf b) 0 grow-books (gate-front (namedTests b id) _ tests) refl
+
+    behind : Gate (kindTests b id ++ lackTests b id (sizeOf long)) 0
+    unfolding fileTests
+    behind = gate-rest (namedTests b id) _ tests
 
     pub grow-variable : variableBit (attributeOf (fileBytes b id)) ≡ 1
-    grow-variable = file-variable b id (sizeOf long) grow-books tests
+    unfolding kindTests
+    grow-variable = gate-head 11 _ [] (gate-head 10 (Unprotected 4 b id) _ (gate-front (kindTests b id) _ behind) .1) .0
 
     pub grow-room : (x : ℕ) → x ≡ sizeOf long → Gate (lackTests b id x) 0
-    grow-room x is = rw is (file-room b id (sizeOf long) grow-books tests)
+    grow-room x is = rw is (gate-rest (kindTests b id) _ behind)
 
     pub grow-date : length date ≡ 6
-    unfolding growTests
-    grow-date = argument-allowed b (GrowAllowed long date) 0 (gate-front (argumentTests b (GrowAllowed long date)) _ (rw e at g)) refl .date' .long
+    grow-date = grow-allows .date' .long
 
   pub grow-refused : (n : ℕ) → Gate (growTests b id long date) n → n ≢ 0 → Grew b id long date n b
   grow-refused n g h = record { number = g; books = after-refused n _ b h }

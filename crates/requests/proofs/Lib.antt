@@ -11,6 +11,8 @@ pub mod GrowLaws
 pub mod FixedLaws
 pub mod CreateKeeps
 pub mod StateLaws
+pub mod StampLaws
+pub mod FlagLaws
 pub mod StateKeeps
 pub mod LocateLaws
 pub mod DeleteLaws
@@ -27,7 +29,5 @@ pub mod StepWrite
 pub mod StepSound
 pub mod StepFrame
 pub mod HistoryLaws
-pub mod StampLaws
-pub mod SteadyLaws
 pub mod AlikeLaws
 pub mod DemandThree

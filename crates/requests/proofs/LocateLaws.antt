@@ -8,12 +8,12 @@ use native.Mathlib.Omega.{arith}
 use lib.ListN.{length, take, drop}
 use Rattle.tables.specs.declared.places.Places.{Places}
 use Rattle.tables.specs.declared.kinds.Sector.{Sector}
-use Rattle.tables.specs.Places.{placesOf, Layout}
+use Rattle.tables.specs.Places.{placesOf}
 use Rattle.tables.specs.Gates.{Test, asks, Gate}
-use Rattle.tables.specs.Books.{Good, bookTests}
+use Rattle.tables.specs.Books.{Good}
 use Rattle.tables.specs.Rules.R8.{fileSectors}
 use Rattle.tables.specs.Views.{viewOf, Parent}
-use Rattle.tables.proofs.GateLaws.{gate-one, gate-fails, gate-passes, gate-end, gate-stop, gate-skip, gate-rest, gate-head, gate-front, zero-good}
+use Rattle.tables.proofs.GateLaws.{gate-one, gate-fails, gate-passes, gate-end, gate-stop, gate-skip, gate-rest, gate-head, gate-front}
 use Rattle.files.specs.declared.spot.Spot.{Spot}
 use Rattle.files.specs.Spots.{startAt, spotOf, kthSector, OnSector}
 use Rattle.files.specs.Moves.{bodyPlace}
@@ -28,19 +28,7 @@ use Rattle.requests.specs.Locate.{HasSector, sectorOf, locateTests, numb
 use Rattle.requests.specs.Show.{showTests, partOf, ShownAt, bytesOf, Shown}
 use Rattle.requests.proofs.RequestLaws.{good-room}
 use Rattle.requests.proofs.NamedLaws.{named-active, usable-active, body-usable}
-
--- ---- 1 to 5
-
-module _ (b : List ℕ) (n : ℕ) (h : Gate (useTests b) n) (e : n ≡ 0) where
-  pub use-good : (p : Places) → p ≡ placesOf b → Good b p
-  unfolding useTests
-  use-good p is = rw is (zero-good b (gate-front (bookTests b) _ (rw e at h)))
-
-  pub use-room : 2048 ≤ length b
-  use-room = good-room b (placesOf b) (use-good (placesOf b) refl)
-
-  pub use-layout : (p : Places) → p ≡ placesOf b → Layout p (length b)
-  use-layout p is = use-good p is .layout
+use Rattle.requests.proofs.MountLaws.{use-good}
 
 -- ---- tests between those and 14
 

@@ -1,23 +1,24 @@
 -- Mount, dismount and space: each way out, and that their promises allow one result. Assumes nothing.
-use mathlib.Core.Path.{_≡_, refl, sym, ap, ap₂, _∙_}
-use mathlib.Core.Logic.{_⊎_, inl, inr, _≢_}
-use mathlib.Core.List.{List, [], _∷_, _++_}
-use Prim.Native.Nat.{ℕ, zero, suc, _+_, _*_, _≤_, _<_}
+use mathlib.Core.Path.{_≡_, refl, sym, ap, _∙_}
+use mathlib.Core.Logic.{_≢_}
+use mathlib.Core.List.{List, [], _∷_}
+use Prim.Native.Nat.{ℕ, zero, suc, _*_, _≤_}
 use native.Mathlib.Omega.{arith}
 use lib.ListN.{length}
 use Rattle.field.specs.Runs.{countBits}
 use Rattle.tables.specs.declared.places.Places.{Places}
 use Rattle.tables.specs.Sector0.{zonesOf}
 use Rattle.tables.specs.Sector1.{flagOf}
-use Rattle.tables.specs.Gates.{Test, asks, Gate}
+use Rattle.tables.specs.Gates.{asks, Gate}
 use Rattle.tables.specs.Books.{Good, bookTests}
-use Rattle.tables.proofs.GateLaws.{gate-one, gate-fails, gate-passes, gate-end, good-gate, bad-gate}
+use Rattle.tables.specs.Places.{placesOf, Layout}
+use Rattle.tables.proofs.GateLaws.{gate-one, gate-fails, gate-passes, gate-end, gate-front, zero-good, good-gate, bad-gate}
 use Rattle.requests.specs.declared.space.Space.{Space}
 use Rattle.requests.specs.declared.space.Space.the-variants.{Is, Refused}
-use Rattle.requests.specs.Answers.{after, useTests}
+use Rattle.requests.specs.Answers.{useTests}
 use Rattle.requests.specs.Mount.{putFlag, mountTests, Mounted, Dismounted}
 use Rattle.requests.specs.Space.{usedSectors, numberOf, spaceOf, Spaced}
-use Rattle.requests.proofs.RequestLaws.{after-one, after-refused, zero-sized}
+use Rattle.requests.proofs.RequestLaws.{good-room, after-one, after-refused}
 
 module _ (b : List ℕ) where
   -- ---- the judge of mount
@@ -48,6 +49,18 @@ module _ (b : List ℕ) where
   unfolding useTests
   use-fine p f g h ne = good-gate b p (asks 5 (flagOf b ≢ 0) ∷ []) 0 g (gate-passes 5 (flagOf b ≢ 0) [] 0 (λ e. ne (h ∙ e)) gate-end)
 
+  -- what a number 0 says
+  module _ (n : ℕ) (h : Gate (useTests b) n) (e : n ≡ 0) where
+    pub use-good : (p : Places) → p ≡ placesOf b → Good b p
+    unfolding useTests
+    use-good p is = rw is (zero-good b (gate-front (bookTests b) _ (rw e at h)))
+
+    pub use-room : 2048 ≤ length b
+    use-room = good-room b (placesOf b) (use-good (placesOf b) refl)
+
+    pub use-layout : (p : Places) → p ≡ placesOf b → Layout p (length b)
+    use-layout p is = use-good p is .layout
+
   -- ---- mount and dismount
 
   pub mount-stops : (n : ℕ) → Gate (mountTests b) n → n ≢ 0 → Mounted b n b
@@ -55,17 +68,13 @@ module _ (b : List ℕ) where
 
   pub mount-ready : (n : ℕ) → Gate (mountTests b) n → n ≡ 0 → 2048 ≤ length b
   unfolding mountTests
-  mount-ready n g e = omega (arith, zero-sized b (asks 6 (flagOf b ≢ 1) ∷ []) n g e .least)
+  mount-ready n g e = good-room b (placesOf b) (zero-good b (gate-front (bookTests b) _ (rw e at g)))
 
   pub mount-ends : (n : ℕ) (b' : List ℕ) → Gate (mountTests b) n → n ≡ 0 → b' ≡ putFlag b 1 → Mounted b 0 b'
   mount-ends n b' g e h = record { number = rw e at g; books = h }
 
   pub dismount-stops : (n : ℕ) → Gate (useTests b) n → n ≢ 0 → Dismounted b n b
   dismount-stops n g h = record { number = g; books = after-refused n (putFlag b 0) b h }
-
-  pub dismount-ready : (n : ℕ) → Gate (useTests b) n → n ≡ 0 → 2048 ≤ length b
-  unfolding useTests
-  dismount-ready n g e = omega (arith, zero-sized b (asks 5 (flagOf b ≢ 0) ∷ []) n g e .least)
 
   pub dismount-ends : (n : ℕ) (b' : List ℕ) → Gate (useTests b) n → n ≡ 0 → b' ≡ putFlag b 0 → Dismounted b 0 b'
   dismount-ends n b' g e h = record { number = rw e at g; books = h }

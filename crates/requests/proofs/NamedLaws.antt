@@ -12,8 +12,8 @@ use Rattle.tables.specs.Gates.{Gate}
 use Rattle.tables.specs.Books.{Good}
 use Rattle.tables.specs.Rules.R9.{deletedBit}
 use Rattle.tables.specs.Views.{viewOf, Parent}
-use Rattle.tables.proofs.GateLaws.{gate-fails, gate-passes, gate-end, gate-stop, gate-skip, gate-rest, gate-head, gate-front}
-use Rattle.requests.specs.Named.{fileBytes, namedTests, Unprotected, usableTests}
+use Rattle.tables.proofs.GateLaws.{gate-fails, gate-passes, gate-end, gate-stop, gate-skip, gate-head, gate-front}
+use Rattle.requests.specs.Named.{fileBytes, namedTests, usableTests}
 use Rattle.requests.specs.Body.{BodySized, bodyTests}
 
 -- ---- 8 and 9
@@ -90,10 +90,6 @@ module _ (w : ℕ) (b : List ℕ) (id : ℕ) where
     pub usable-active : Parent (viewOf (placesOf b) b) id × (deletedBit (attributeOf (fileBytes b id)) ≡ 0)
     unfolding usableTests
     usable-active = named-active b id (gate-front (namedTests b id) _ h)
-
-    pub usable-free : Unprotected w b id
-    unfolding usableTests
-    usable-free = gate-head 10 _ [] (gate-rest (namedTests b id) _ h) .0
 
 -- ---- 15, 8, 9 and 10
 

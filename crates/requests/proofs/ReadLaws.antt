@@ -29,7 +29,7 @@ use Rattle.requests.specs.Create.{argumentTests}
 use Rattle.requests.specs.Format.{sizeOf}
 use Rattle.requests.specs.Read.{wholeSectors, endOf, MoveAllowed, readTests, readAmount, ReadOut}
 use Rattle.requests.proofs.RequestLaws.{after-one, answers-one}
-use Rattle.requests.proofs.CreateLaws.{argument-says, argument-allowed, argument-good}
+use Rattle.requests.proofs.CreateLaws.{argument-says, argument-allowed, argument-good, argument-room}
 use Rattle.requests.proofs.FixedLaws.{le-says}
 use Rattle.requests.proofs.NamedLaws.{usable-active, body-usable}
 
@@ -139,7 +139,7 @@ module _ (b body : List ℕ) (id : ℕ) (position long : Amount) (room : ℕ) wh
         (gate-front (bodyTests 8 b body id) _ q, gate-head 14 _ [] (gate-rest (bodyTests 8 b body id) _ q) .0)
 
     pub read-room : 2048 ≤ length b
-    read-room = omega (arith, argument-good b _ 0 front refl .sized .least)
+    read-room = argument-room b _ 0 front refl
 
     module _ (p : Places) (is : p ≡ placesOf b) where
       pub read-good : Good b p

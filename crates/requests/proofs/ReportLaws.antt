@@ -1,32 +1,29 @@
 -- The report: how long its lines are, and its text by value. Assumes nothing.
 use mathlib.Core.Path.{_≡_, refl, sym, ap, ap₂, _∙_}
-use mathlib.Core.Logic.{_⊎_, inl, inr, _≢_}
+use mathlib.Core.Logic.{inl, inr, _≢_}
 use mathlib.Core.List.{List, [], _∷_, _++_}
 use Prim.Native.Nat.{ℕ, zero, suc, _+_, _-_, _*_, _^_, _≤_, _<_}
 use native.Mathlib.Nat.{zero-add}
 use native.Mathlib.Omega.{arith}
 use lib.ListN.{length, take, drop, replicate, length-append, length-replicate, replicate-append-replicate}
 use lib.Seq.{take-at, drop-at}
-use lib.Dec.{eqb}
 use Rattle.field.specs.Parts.{over}
 use Rattle.field.proofs.Sums.{sum-le}
 use Rattle.field.proofs.RunLaws.{count-le}
 use Rattle.tables.specs.declared.places.Places.{Places}
-use Rattle.tables.specs.Indexes.{wordOf, attributeOf}
 use Rattle.tables.specs.Places.{placesOf}
-use Rattle.tables.specs.Views.{View, viewOf, tally}
+use Rattle.tables.specs.Views.{View, viewOf}
 use Rattle.tables.specs.Open.{isOpen, openZones}
-use Rattle.tables.specs.Rules.R8.{directoryBit, systemBit}
-use Rattle.tables.specs.Rules.R9.{deletedBit, freeOne, activeOne, deletedOne, systemOne, directoryOne}
 use Rattle.tables.specs.Gates.{Gate}
 use Rattle.tables.specs.Books.{Good, bookTests}
 use Rattle.tables.proofs.CountLaws.{only-le}
 use Rattle.tables.proofs.GateLaws.{gate-one, good-zero}
 use Rattle.requests.specs.declared.report.Figures.{Figures}
 use Rattle.requests.specs.declared.report.Text.{Text}
-use Rattle.requests.specs.Text.{decimal, lineOf, Put}
+use Rattle.requests.specs.Text.{lineOf, Put}
 use Rattle.requests.specs.Report.{zonesLine, sectorsLine, usedLine, indexesLine, freeLine, activeLine, deletedLine, systemLine, directoryLine, openLine, mountedLine, sizeLines, fileLines, stateLines, linesOf, refusedLine, Small, textOf, figuresOf, reportOf, Reported}
 use Rattle.requests.proofs.TextLaws.{line-length, decimal-few}
+use Rattle.requests.proofs.RequestLaws.{good-few}
 
 -- a line of a number below 10 ^ (k + 1)
 short : (name : List ℕ) (k n : ℕ) → n < 10 ^ (k + 1) → length (lineOf name n) ≤ length name + k + 2
@@ -77,30 +74,6 @@ text-made xs bytes len h p =
 
 -- ---- the figures of lawful books are small
 
-tally-few : (v : View) (f : ℕ → List ℕ → ℕ) → ((i : ℕ) (t : List ℕ) → f i t ≤ 1) → tally v f ≤ v .indexes
-unfolding tally
-tally-few v f h = sum-le (v .indexes) _ (λ k l. h (k + 1) (v .table (k + 1)))
-
-free-few : (i : ℕ) (t : List ℕ) → freeOne i t ≤ 1
-unfolding freeOne
-free-few i t = only-le _ 1
-
-active-few : (i : ℕ) (t : List ℕ) → activeOne i t ≤ 1
-unfolding activeOne
-active-few i t = omega (arith, only-le (eqb (wordOf t) i) (1 - deletedBit (attributeOf t)))
-
-deleted-few : (i : ℕ) (t : List ℕ) → deletedOne i t ≤ 1
-unfolding deletedOne
-deleted-few i t = omega (arith, only-le (eqb (wordOf t) i) (deletedBit (attributeOf t)))
-
-system-few : (i : ℕ) (t : List ℕ) → systemOne i t ≤ 1
-unfolding systemOne
-system-few i t = omega (arith, only-le (eqb (activeOne i t) 1) (systemBit (attributeOf t)))
-
-directory-few : (i : ℕ) (t : List ℕ) → directoryOne i t ≤ 1
-unfolding directoryOne
-directory-few i t = omega (arith, only-le (eqb (activeOne i t) 1) (directoryBit (attributeOf t)))
-
 open-few : (v : View) → openZones v ≤ v .zones - 2
 unfolding openZones
 open-few v = sum-le (v .zones - 2) _ (λ k l. only-le (isOpen (v .zone (k + 2))) 1)
@@ -108,20 +81,20 @@ open-few v = sum-le (v .zones - 2) _ (λ k l. only-le (isOpen (v .zone (k + 2)))
 pub good-small : (b : List ℕ) (p : Places) (f : Figures) → Good b p → f ≡ figuresOf p b → Small f
 good-small b p f g e =
     let v : View = viewOf p b in
-    let r = g .lawful .r9 in
+    let few = good-few b p g in
     let l = g .layout in
     rw e (record {
       zones = l .most;
       sectors = omega (arith, l .most);
       used = omega (arith, l .most, count-le b (p .sectortable) 0 (1024 * p .zones));
       indexes = l .few;
-      free = omega (arith, l .few, r .free, tally-few v freeOne free-few);
-      active = omega (arith, l .few, r .active, tally-few v activeOne active-few);
-      deleted = omega (arith, l .few, r .deleted, tally-few v deletedOne deleted-few);
-      system = omega (arith, l .few, r .system, tally-few v systemOne system-few);
-      directory = omega (arith, l .few, r .directory, tally-few v directoryOne directory-few);
+      free = few .free;
+      active = few .active;
+      deleted = few .deleted;
+      system = few .system;
+      directory = few .directory;
       openzones = omega (arith, l .most, open-few v);
-      mounted = r .flag;
+      mounted = g .lawful .r9 .flag;
     })
 
 -- ---- the report's two ways out, and one result

@@ -1,17 +1,23 @@
--- What every request uses: the books' own numbers, a refusal that alters nothing, a request that is done. Assumes nothing.
+-- What every request uses: the books' own numbers, a refusal that alters nothing, and small counts. Assumes nothing.
 use mathlib.Core.Path.{_≡_, refl, sym, ap, ap₂, _∙_}
-use mathlib.Core.Logic.{_⊎_, inl, inr, _≢_}
-use mathlib.Core.Bool.{Bool, not, true, false}
-use mathlib.Core.List.{List, [], _∷_, _++_}
-use Prim.Native.Nat.{ℕ, zero, suc, _+_, _*_, _≤_, _<_}
+use mathlib.Core.Logic.{_≢_}
+use mathlib.Core.List.{List}
+use Prim.Native.Nat.{ℕ, zero, suc, _+_, _-_, _≤_}
 use native.Mathlib.Omega.{arith}
+use lib.Dec.{eqb}
 use lib.ListN.{length}
+use Rattle.field.proofs.Sums.{sum-le}
 use Rattle.tables.specs.declared.places.Places.{Places}
-use Rattle.tables.specs.Gates.{Test, asks, Gate}
+use Rattle.tables.specs.Gates.{Gate}
 use Rattle.tables.specs.declared.check.Checked.{Checked}
 use Rattle.tables.specs.declared.check.Checked.the-variants.{Fine, Refused}
-use Rattle.tables.specs.Books.{Sized, Good, bookTests, Examined}
-use Rattle.tables.proofs.GateLaws.{gate-one, gate-rest, good-zero}
+use Rattle.tables.specs.Books.{Good, bookTests, Examined}
+use Rattle.tables.specs.Indexes.{wordOf, attributeOf}
+use Rattle.tables.specs.Rules.R8.{directoryBit, systemBit}
+use Rattle.tables.specs.Rules.R9.{deletedBit, freeOne, activeOne, deletedOne, systemOne, directoryOne}
+use Rattle.tables.specs.Sector1.{activeOf, deletedOf, freeOf, systemOf, directoryOf}
+use Rattle.tables.specs.Views.{View, viewOf, tally}
+use Rattle.tables.proofs.CountLaws.{only-le}
 use Rattle.requests.specs.declared.answer.Answer.{Answer}
 use Rattle.requests.specs.Answers.{after, numberOf, answerOf}
 
@@ -24,10 +30,6 @@ pub after-refused : (r : ℕ) (new old : List ℕ) → r ≢ 0 → old ≡ after
 after-refused zero new old h = absurd (h refl)
 after-refused (suc k) new old h = refl
 
--- done
-pub after-done : (r : ℕ) (b new old : List ℕ) → r ≡ 0 → b ≡ new → b ≡ after r new old
-after-done r b new old e h = rw e h
-
 -- one number, one content
 pub after-one : (r s : ℕ) (x y new old : List ℕ) → r ≡ s → x ≡ after r new old → y ≡ after s new old → x ≡ y
 after-one r s x y new old e h k = h ∙ ap (λ (n : ℕ). after n new old) e ∙ sym k
@@ -36,15 +38,55 @@ after-one r s x y new old e h k = h ∙ ap (λ (n : ℕ). after n new old) e ∙
 pub answers-one : (r s : Answer) (u v : ℕ) → r ≡ answerOf (numberOf r) u → s ≡ answerOf (numberOf s) v → numberOf r ≡ numberOf s → u ≡ v → r ≡ s
 answers-one r s u v h k e f = h ∙ ap₂ (λ (n m : ℕ). answerOf n m) e f ∙ sym k
 
--- a number 0 of tests that begin with the books' says that the books are of an allowed size
-pub zero-sized : (b : List ℕ) (us : List Test) (r : ℕ) → Gate (bookTests b ++ us) r → r ≡ 0 → Sized b
-unfolding Gate
-zero-sized b us r (inl h) e = h .0
-zero-sized b us r (inr h) e = absurd (h .2 e)
-
 -- what an examination found, arm by arm
 pub found-good : (b : List ℕ) (found : Checked) (p : Places) → Examined b found → found ≡ Fine p → Good b p
 found-good b found p h e = rw e at h
 
 pub found-bad : (b : List ℕ) (found : Checked) (n : ℕ) → Examined b found → found ≡ Refused n → Gate (bookTests b) n × (n ≢ 0)
 found-bad b found n h e = rw e at h
+
+-- ---- R9's counts are no more than the tables
+
+tally-few : (v : View) (one : ℕ → List ℕ → ℕ) → ((i : ℕ) (t : List ℕ) → one i t ≤ 1) → tally v one ≤ v .indexes
+unfolding tally
+tally-few v one h = sum-le (v .indexes) (λ k. one (k + 1) (v .table (k + 1))) (λ k l. h (k + 1) (v .table (k + 1)))
+
+free-le : (i : ℕ) (t : List ℕ) → freeOne i t ≤ 1
+unfolding freeOne
+free-le i t = only-le _ 1
+
+active-le : (i : ℕ) (t : List ℕ) → activeOne i t ≤ 1
+unfolding activeOne
+active-le i t = omega (arith, only-le (eqb (wordOf t) i) (1 - deletedBit (attributeOf t)))
+
+deleted-le : (i : ℕ) (t : List ℕ) → deletedOne i t ≤ 1
+unfolding deletedOne
+deleted-le i t = omega (arith, only-le (eqb (wordOf t) i) (deletedBit (attributeOf t)))
+
+system-le : (i : ℕ) (t : List ℕ) → systemOne i t ≤ 1
+unfolding systemOne
+system-le i t = omega (arith, only-le (eqb (activeOne i t) 1) (systemBit (attributeOf t)))
+
+directory-le : (i : ℕ) (t : List ℕ) → directoryOne i t ≤ 1
+unfolding directoryOne
+directory-le i t = omega (arith, only-le (eqb (activeOne i t) 1) (directoryBit (attributeOf t)))
+
+pub record Few (b : List ℕ) : Type 0 where
+  pub free : freeOf b ≤ 4096
+  pub active : activeOf b ≤ 4096
+  pub deleted : deletedOf b ≤ 4096
+  pub system : systemOf b ≤ 4096
+  pub directory : directoryOf b ≤ 4096
+
+pub good-few : (b : List ℕ) (p : Places) → Good b p → Few b
+good-few b p g =
+    let v : View = viewOf p b in
+    let r = g .lawful .r9 in
+    let few = g .layout .few in
+    record {
+      free = omega (arith, few, r .free, tally-few v freeOne free-le);
+      active = omega (arith, few, r .active, tally-few v activeOne active-le);
+      deleted = omega (arith, few, r .deleted, tally-few v deletedOne deleted-le);
+      system = omega (arith, few, r .system, tally-few v systemOne system-le);
+      directory = omega (arith, few, r .directory, tally-few v directoryOne directory-le);
+    }

@@ -31,7 +31,7 @@ use Rattle.requests.specs.Answers.{numberOf}
 use Rattle.requests.specs.Create.{argumentTests}
 use Rattle.requests.specs.Search.{isActive, textOf, isMatch, passing, found, PatternAllowed, filledWith, Searched}
 use Rattle.requests.proofs.RequestLaws.{after-one, answers-one}
-use Rattle.requests.proofs.CreateLaws.{good-at, argument-says, argument-good}
+use Rattle.requests.proofs.CreateLaws.{argument-says, argued-good}
 
 -- ---- the pattern, and a name's text
 
@@ -207,7 +207,7 @@ passing-up test (suc n) k l lt h = ⊎-elim
 -- ---- the request
 
 pub argument-layout : (b : List ℕ) (p : Places) (P : Type 0) (n : ℕ) → Gate (argumentTests b P) n → n ≡ 0 → p ≡ placesOf b → Layout p (length b)
-argument-layout b p P n g e h = good-at b p (argument-good b P n g e) h .layout
+argument-layout b p P n g e h = argued-good b P n p g e h .layout
 
 module _ (b pattern ids : List ℕ) (a : Bool) (s : Says a (PatternAllowed pattern)) where
   pub search-refused : (n : ℕ) → Gate (argumentTests b (a ≡ true)) n → n ≢ 0 → Searched b pattern ids (Refused n) ids

@@ -1,44 +1,68 @@
--- A date and a number written in a file's parent leave every other table, the flag and all pointers: so do temporary delete, recover and
--- set protection. Assumes nothing.
-use mathlib.Core.Path.{_≡_, refl, sym, ap, ap₂, _∙_}
+-- A date and a number written in a file's parent, and sector 1's counts of files: what stays of the books, and what is read; so of temporary
+-- delete, recover and set protection. Assumes nothing.
+use mathlib.Core.Path.{_≡_, refl, ap, _∙_}
 use mathlib.Core.Logic.{_≢_, inl, inr}
 use mathlib.Core.List.{List}
-use Prim.Native.Nat.{ℕ, zero, suc, _+_, _*_, _≤_}
-use native.Mathlib.Decide.{ℕ-discrete}
+use Prim.Native.Nat.{ℕ, _+_, _≤_}
 use native.Mathlib.Omega.{arith}
 use lib.ListN.{length}
-use Rattle.field.specs.Numbers.{putU16}
+use Rattle.field.specs.Numbers.{putU16, putU32}
 use Rattle.field.specs.Kept.{Kept}
 use Rattle.field.specs.Parts.{over}
 use Rattle.field.proofs.Frames.{kept-refl, kept-trans, kept-wider}
-use Rattle.field.proofs.NumberLaws.{u16-kept, kept-putU16, kept-putU32}
-use Rattle.field.proofs.PartLaws.{kept-over}
-use Rattle.tables.specs.declared.index.Pointer.{Pointer}
+use Rattle.field.proofs.NumberLaws.{u16-kept, u32-kept, kept-putU16, kept-putU32, u16-put-same, u32-put-same}
+use Rattle.field.proofs.PartLaws.{kept-over, over-part, same-at}
 use Rattle.tables.specs.declared.places.Places.{Places}
 use Rattle.tables.specs.Books.{Good}
-use Rattle.tables.specs.Dates.{Date}
 use Rattle.tables.specs.Gates.{Gate}
-use Rattle.tables.specs.Indexes.{tableAt, baseOf, pointerAt}
+use Rattle.tables.specs.Indexes.{tableAt, nameOf, createdOf, lengthOf}
 use Rattle.tables.specs.Places.{placesOf, Layout}
-use Rattle.tables.specs.Sector1.{flagOf}
-use Rattle.tables.specs.Views.{viewOf, Parent}
-use Rattle.tables.proofs.FrameLaws.{table-kept}
-use Rattle.tables.proofs.GateLaws.{gate-rest, gate-head, gate-front}
-use Rattle.tables.proofs.IndexLaws.{length-table, base-parent}
+use Rattle.tables.specs.Same.{Ground}
+use Rattle.tables.specs.Sector1.{activeOf, deletedOf, freeOf, systemOf, directoryOf}
+use Rattle.tables.specs.Views.{View, viewOf, Parent}
+use Rattle.tables.proofs.FrameLaws.{table-kept, sector1-same, sector1-tails}
+use Rattle.tables.proofs.IndexLaws.{length-table}
+use Rattle.tables.proofs.SameLaws.{same-ground}
+use Rattle.allocation.specs.Lengthened.{Quiet}
 use Rattle.allocation.specs.NewTables.{tablePlace}
-use Rattle.allocation.proofs.PointerBytes.{start-kept, count-kept}
+use Rattle.allocation.specs.Steps.{SameCounts}
+use Rattle.allocation.proofs.HeldLawful.{calm-quiet, quiet-trans, Fields, table-fields}
+use Rattle.allocation.proofs.NextGround.{ground-trans}
+use Rattle.allocation.proofs.PointerBytes.{word-kept}
+use Rattle.allocation.proofs.StepLaws.{Still, still-table}
 use Rattle.allocation.proofs.TableLaws.{table-put16, table-over, table-other}
-use Rattle.requests.specs.Answers.{after}
-use Rattle.requests.specs.Create.{argumentTests}
-use Rattle.requests.specs.State.{putAttribute, putCounts, removed, recovered, protected, removeTests, removedTests, recoverTests, ProtectAllowed, protectTests}
-use Rattle.requests.proofs.CreateLaws.{argument-allowed}
-use Rattle.requests.proofs.NamedLaws.{named-active, usable-active}
+use Rattle.requests.specs.State.{putAttribute, putCounts, removed, recovered, protected, removeTests, recoverTests, protectTests}
+use Rattle.requests.proofs.StateLaws.{remove-asks, recover-asks, protect-asks}
 
 -- ---- a date and a number in file f's parent, and the date as latest update
+
+-- books z are b but for that
+pub record Stamped (p : Places) (b z : List ℕ) (f : ℕ) : Type 0 where
+  pub other : (j : ℕ) → 1 ≤ j → j ≢ f → tableAt p z j ≡ tableAt p b j
+  pub quiet : Quiet p b z
+  pub ground : Ground (viewOf p b) (viewOf p z)
+  pub head : viewOf p z .head ≡ viewOf p b .head
+  pub free : freeOf z ≡ freeOf b
+  pub counts : SameCounts (viewOf p b) (viewOf p z)
+
+-- sector 1's bytes tell neither zones nor sectors, and no tail
+status-quiet : (p : Places) (b b' : List ℕ) → Layout p (length b) → Kept b b' 1028 22 → Quiet p b b'
+status-quiet p b b' lay k = record {
+  len = k .len;
+  low = λ j l. k .out j (inl (omega arith));
+  tails = λ s t. sector1-tails b b' (kept-wider k (omega arith) (omega arith)) p lay t;
+}
+
+status-ground : (p : Places) (b b' : List ℕ) → Layout p (length b) → Kept b b' 1028 22 → Ground (viewOf p b) (viewOf p b')
+status-ground p b b' lay k = same-ground (sector1-same b b' (kept-wider k (omega arith) (omega arith)) p lay (u32-kept 1050 k (inr (omega arith))))
 
 module _ (p : Places) (b : List ℕ) (f : ℕ) (date : List ℕ) (lay : Layout p (length b)) (lo : 1 ≤ f) (hi : f ≤ p .indexes) (six : length date ≡ 6) where
   dated : Kept b (over b (tablePlace p f + 34) date) (tablePlace p f + 34) 6
   dated = rw six at (kept-over b (tablePlace p f + 34) date (omega (arith, lay .end)))
+
+  -- the table with the date
+  pub table-dated : Kept (tableAt p b f) (over (tableAt p b f) 34 date) 34 6
+  table-dated = rw six at (kept-over (tableAt p b f) 34 date (omega (arith, length-table p b f lay lo hi)))
 
   module _ (y : List ℕ) (o n : ℕ) (within : o + n ≤ 128) (k : Kept (over b (tablePlace p f + 34) date) y (tablePlace p f + o) n) where
     own : Kept b y (tablePlace p f) 128
@@ -47,92 +71,176 @@ module _ (p : Places) (b : List ℕ) (f : ℕ) (date : List ℕ) (lay : Layout p
     latest : Kept y (over y 1044 date) 1044 6
     latest = rw six at (kept-over y 1044 date (omega (arith, own .len, lay .end, lay .index, lay .sector, lay .zone)))
 
-    pub stamped-other : (j : ℕ) → 1 ≤ j → j ≢ f → tableAt p (over y 1044 date) j ≡ tableAt p b j
-    stamped-other j low ne =
-        table-kept p j latest (inr (omega (arith, lay .index, lay .sector, lay .zone))) ∙ table-other p f j own lo low ne
+    status : Kept y (over y 1044 date) 1028 22
+    status = kept-wider latest (omega arith) (omega arith)
+
+    still : Still p b y
+    still = still-table lay f lo own
+
+    lay-y : Layout p (length y)
+    lay-y = rw (own .len) lay
 
     pub stamped-own : tableAt p (over y 1044 date) f ≡ tableAt p y f
     stamped-own = table-kept p f latest (inr (omega (arith, lay .index, lay .sector, lay .zone)))
 
-    pub stamped-flag : flagOf (over y 1044 date) ≡ flagOf b
-    stamped-flag = u16-kept 1054 latest (inr (omega arith)) ∙ u16-kept 1054 own (inl (omega (arith, lay .index, lay .sector, lay .zone)))
+    pub stamped : Stamped p b (over y 1044 date) f
+    stamped = record {
+      other = λ j low ne. table-kept p j latest (inr (omega (arith, lay .index, lay .sector, lay .zone))) ∙ table-other p f j own lo low ne;
+      quiet = quiet-trans (calm-quiet (still .calm)) (status-quiet p y (over y 1044 date) lay-y status);
+      ground = ground-trans (still .calm .ground) (status-ground p y (over y 1044 date) lay-y status);
+      head = u32-kept 1050 latest (inr (omega arith)) ∙ still .head;
+      free = u32-kept 1036 latest (inl (omega arith)) ∙ still .free;
+      counts = record {
+        active = u32-kept 1028 latest (inl (omega arith)) ∙ still .counts .active;
+        deleted = u32-kept 1032 latest (inl (omega arith)) ∙ still .counts .deleted;
+        system = u16-kept 1040 latest (inl (omega arith)) ∙ still .counts .system;
+        directory = u16-kept 1042 latest (inl (omega arith)) ∙ still .counts .directory;
+        flag = u16-kept 1054 latest (inr (omega arith)) ∙ still .counts .flag;
+      };
+    }
 
--- ---- an attribute written, behind other counts of files, leaves all pointers
+-- ---- an attribute written, behind other counts of files
 
-abbrev pub pointerIn : Places → List ℕ → ℕ → ℕ → Pointer
-pointerIn p b i j = pointerAt (tableAt p b i) (baseOf i (tableAt p b i) + 6 * j)
+-- of file f's parent only bytes 34 to 45 are others, of sector 1 what R9 alone sees
+pub record Restated (v v' : View) (f : ℕ) : Type 0 where
+  pub ground : Ground v v'
+  pub indexes : v' .indexes ≡ v .indexes
+  pub head : v' .head ≡ v .head
+  pub here : Kept (v .table f) (v' .table f) 34 12
+  pub there : (j : ℕ) → 1 ≤ j → j ≤ v .indexes → j ≢ f → v' .table j ≡ v .table j
 
-module _ (p : Places) (b c : List ℕ) (f a : ℕ) (date : List ℕ) (lay : Layout p (length b)) (k : Kept b c 1028 16) (parent : Parent (viewOf p b) f) (six : length date ≡ 6) where
-  lay-c : Layout p (length c)
-  lay-c = rw (k .len) lay
+pub restated-parent : (v v' : View) (f : ℕ) → Restated v v' f → Parent v f → Parent v' f
+restated-parent v v' f w parent = record { low = parent .low; high = rw (w .indexes) (parent .high); word = word-kept f (w .here) (omega arith) ∙ parent .word }
 
-  counted : (j : ℕ) → tableAt p c j ≡ tableAt p b j
-  counted j = table-kept p j k (inr (omega (arith, lay .index, lay .sector, lay .zone)))
+-- sector 1's counts, but that of free tables, may be others
+pub record Recounted (b c : List ℕ) : Type 0 where
+  pub kept : Kept b c 1028 16
+  pub free : freeOf c ≡ freeOf b
 
+pub same-counted : (b : List ℕ) → Recounted b b
+same-counted b = record { kept = kept-refl b 1028 16; free = refl }
+
+module _ (p : Places) (b c : List ℕ) (f a : ℕ) (date : List ℕ) (lay : Layout p (length b)) (k : Recounted b c) (lo : 1 ≤ f) (hi : f ≤ p .indexes) (six : length date ≡ 6) where
   abbrev t : List ℕ
   t = tableAt p b f
 
-  new : tableAt p (putAttribute p c f a date) f ≡ putU16 (over t 34 date) 44 a
+  lay-c : Layout p (length c)
+  lay-c = rw (k .kept .len) lay
+
+  wide : Kept b c 1028 22
+  wide = kept-wider (k .kept) (omega arith) (omega arith)
+
+  c-table : (j : ℕ) → tableAt p c j ≡ tableAt p b j
+  c-table j = table-kept p j (k .kept) (inr (omega arith))
+
+  sized : length t ≡ 128
+  sized = length-table p b f lay lo hi
+
+  date-kept : Kept t (over t 34 date) 34 6
+  date-kept = table-dated p b f date lay lo hi six
+
+  put-kept : Kept (over t 34 date) (putU16 (over t 34 date) 44 a) 44 2
+  put-kept = kept-putU16 (over t 34 date) 44 a
+
+  new-kept : Kept t (putU16 (over t 34 date) 44 a) 34 12
+  new-kept = kept-trans (kept-wider date-kept (omega arith) (omega arith)) (kept-wider put-kept (omega arith) (omega arith))
+
+  put-new : tableAt p (putAttribute p c f a date) f ≡ putU16 (over t 34 date) 44 a
   unfolding putAttribute
-  new =
-      stamped-own p c f date lay-c (parent .low) (parent .high) six _ 44 2 (omega arith) (kept-putU16 (over c (tablePlace p f + 34) date) (tablePlace p f + 44) a)
-      ∙ table-put16 p (over c (tablePlace p f + 34) date) f 44 a (omega arith)
-      ∙ ap (λ (x : List ℕ). putU16 x 44 a) (table-over p c f 34 date lay-c (parent .low) (parent .high) (omega arith) ∙ ap (λ (x : List ℕ). over x 34 date) (counted f))
+  put-new =
+      let x = over c (tablePlace p f + 34) date in
+      stamped-own p c f date lay-c lo hi six _ 44 2 (omega arith) (kept-putU16 x (tablePlace p f + 44) a) ∙ table-put16 p x f 44 a (omega arith)
+      ∙ ap (λ (u : List ℕ). putU16 u 44 a) (table-over p c f 34 date lay-c lo hi (omega arith) ∙ ap (λ (u : List ℕ). over u 34 date) (c-table f))
 
-  new-kept : Kept t (tableAt p (putAttribute p c f a date) f) 34 12
-  new-kept =
-      let size = length-table p b f lay (parent .low) (parent .high) in
-      let d : Kept t (over t 34 date) 34 6 = rw six at (kept-over t 34 date (omega arith)) in
-      rw new (kept-trans (kept-wider d (omega arith) (omega arith)) (kept-wider (kept-putU16 (over t 34 date) 44 a) (omega arith) (omega arith)))
-
-  attribute-other : (i : ℕ) → 1 ≤ i → i ≢ f → tableAt p (putAttribute p c f a date) i ≡ tableAt p b i
+  pub put-stamped : Stamped p c (putAttribute p c f a date) f
   unfolding putAttribute
-  attribute-other i low ne =
-      stamped-other p c f date lay-c (parent .low) (parent .high) six _ 44 2 (omega arith) (kept-putU16 (over c (tablePlace p f + 34) date) (tablePlace p f + 44) a) i low ne ∙ counted i
+  put-stamped = stamped p c f date lay-c lo hi six _ 44 2 (omega arith) (kept-putU16 (over c (tablePlace p f + 34) date) (tablePlace p f + 44) a)
 
-  pub attribute-pointer : (i j : ℕ) → 1 ≤ i → pointerIn p (putAttribute p c f a date) i j ≡ pointerIn p b i j
-  attribute-pointer i j low = elim (ℕ-discrete i f) [
-    | yes e ↦ rw e (let base = base-parent f t (parent .word) in
-        ap₂ (λ (s n : ℕ). record { start = record { 0 = s }; count = n }) (start-kept f new-kept (omega arith) j (inr (omega arith))) (count-kept f new-kept (omega arith) j (inr (omega arith))))
-    | no ne ↦ ap (λ (x : List ℕ). pointerAt x (baseOf i x + 6 * j)) (attribute-other i low ne)
-  ]
+  pub put-quiet : Quiet p b (putAttribute p c f a date)
+  put-quiet = quiet-trans (status-quiet p b c lay wide) (put-stamped .quiet)
 
-counts-kept : (b : List ℕ) (active deleted system directory : ℕ) → Kept b (putCounts b active deleted system directory) 1028 16
-unfolding putCounts
-counts-kept b active deleted system directory =
-    kept-trans (kept-wider (kept-putU32 b 1028 active) (omega arith) (omega arith))
-    (kept-trans (kept-wider (kept-putU32 _ 1032 deleted) (omega arith) (omega arith))
-    (kept-trans (kept-wider (kept-putU16 _ 1040 system) (omega arith) (omega arith)) (kept-wider (kept-putU16 _ 1042 directory) (omega arith) (omega arith))))
+  pub put-restated : Restated (viewOf p b) (viewOf p (putAttribute p c f a date)) f
+  put-restated = record {
+    ground = ground-trans (status-ground p b c lay wide) (put-stamped .ground);
+    indexes = refl;
+    head = put-stamped .head ∙ u32-kept 1050 (k .kept) (inr (omega arith));
+    here = rw put-new new-kept;
+    there = λ j low high ne. put-stamped .other j low ne ∙ c-table j;
+  }
 
--- so do temporary delete, recover and set protection
-module _ (b : List ℕ) (good : Good b (placesOf b)) (f : ℕ) (date : List ℕ) (i j : ℕ) (low : 1 ≤ i) where
-  put-pointer : (c : List ℕ) (a : ℕ) → Kept b c 1028 16 → Parent (viewOf (placesOf b) b) f → Date date
-      → pointerIn (placesOf b) (putAttribute (placesOf b) c f a date) i j ≡ pointerIn (placesOf b) b i j
-  put-pointer c a k parent valid = attribute-pointer (placesOf b) b c f a date (good .layout) k parent (valid .long) i j low
+  pub put-fields : Fields (tableAt p (putAttribute p c f a date) f) (nameOf t) (createdOf t) date (lengthOf t) a
+  put-fields = let h = table-fields t sized in rw put-new (record {
+    size = new-kept .len ∙ sized;
+    name' = λ k l. new-kept .out (4 + k) (inl (omega arith)) ∙ h .name' k l;
+    created' = λ k l. new-kept .out (28 + k) (inl (omega arith)) ∙ h .created' k l;
+    changed' = λ k l. put-kept .out (34 + k) (inl (omega arith)) ∙ same-at (over t 34 date) date 34 (over-part t 34 date (omega (arith, sized))) k (omega arith);
+    long' = u32-kept 40 put-kept (inl (omega arith)) ∙ u32-kept 40 date-kept (inr (omega arith));
+    attribute' = u16-put-same (over t 34 date) 44 a (omega (arith, date-kept .len, sized));
+  })
 
-  pub removed-pointer : (r : ℕ) → Gate (removeTests b f date) r → r ≡ 0 → pointerIn (placesOf b) (removed (placesOf b) b f date) i j ≡ pointerIn (placesOf b) b i j
-  unfolding removed removeTests
-  removed-pointer r gate e =
-      let q : Gate (removeTests b f date) 0 = rw e at gate in
-      put-pointer _ _ (counts-kept b _ _ _ _) (usable-active 4 b f (gate-rest (argumentTests b (Date date)) _ q) .0)
-      (argument-allowed b (Date date) 0 (gate-front (argumentTests b (Date date)) _ q) refl)
+-- ---- the counts written
 
-  pub recovered-pointer : (r : ℕ) → Gate (recoverTests b f date) r → r ≡ 0 → pointerIn (placesOf b) (recovered (placesOf b) b f date) i j ≡ pointerIn (placesOf b) b i j
-  unfolding recovered recoverTests removedTests
-  recovered-pointer r gate e =
-      let q : Gate (recoverTests b f date) 0 = rw e at gate in
-      put-pointer _ _ (counts-kept b _ _ _ _) (gate-head 8 (Parent (viewOf (placesOf b) b) f) _ (gate-rest (argumentTests b (Date date)) _ q) .0)
-      (argument-allowed b (Date date) 0 (gate-front (argumentTests b (Date date)) _ q) refl)
+-- they are read so
+pub record Reads (b : List ℕ) (active deleted system directory : ℕ) : Type 0 where
+  pub active' : activeOf b ≡ active
+  pub deleted' : deletedOf b ≡ deleted
+  pub system' : systemOf b ≡ system
+  pub directory' : directoryOf b ≡ directory
 
-  pub protected-pointer : (w r : ℕ) → Gate (protectTests b f w date) r → r ≡ 0 → pointerIn (placesOf b) (protected (placesOf b) b f w date) i j ≡ pointerIn (placesOf b) b i j
-  unfolding protected protectTests
-  protected-pointer w r gate e =
-      let q : Gate (protectTests b f w date) 0 = rw e at gate in
-      put-pointer b _ (kept-refl b 1028 16) (named-active b f (gate-rest (argumentTests b (ProtectAllowed w date)) _ q) .0)
-      (argument-allowed b (ProtectAllowed w date) 0 (gate-front (argumentTests b (ProtectAllowed w date)) _ q) refl .date')
+module _ (b : List ℕ) (active deleted system directory : ℕ) where
+  module _ (x y z w : List ℕ) (ex : x ≡ putU32 b 1028 active) (ey : y ≡ putU32 x 1032 deleted) (ez : z ≡ putU16 y 1040 system) (ew : w ≡ putU16 z 1042 directory) where
+    x-put : Kept b x 1028 4
+    x-put = rw ex (kept-putU32 b 1028 active)
 
--- of a request that is done or not
-pub after-pointer : (r : ℕ) (new b b' : List ℕ) (i j : ℕ) → Good b' (placesOf b) → b' ≡ after r new b → (r ≡ 0 → pointerIn (placesOf b) new i j ≡ pointerIn (placesOf b) b i j)
-    → pointerIn (placesOf b') b' i j ≡ pointerIn (placesOf b) b i j
-after-pointer zero new b b' i j g e h = ap₂ (λ (q : Places) (x : List ℕ). pointerIn q x i j) (sym (g .places)) e ∙ h refl
-after-pointer (suc r) new b b' i j g e h = ap₂ (λ (q : Places) (x : List ℕ). pointerIn q x i j) (sym (g .places)) e
+    y-put : Kept x y 1032 4
+    y-put = rw ey (kept-putU32 x 1032 deleted)
+
+    z-put : Kept y z 1040 2
+    z-put = rw ez (kept-putU16 y 1040 system)
+
+    w-put : Kept z w 1042 2
+    w-put = rw ew (kept-putU16 z 1042 directory)
+
+    w-recounted : Recounted b w
+    w-recounted = record {
+      kept = kept-trans (kept-wider x-put (omega arith) (omega arith)) (kept-trans (kept-wider y-put (omega arith) (omega arith))
+          (kept-trans (kept-wider z-put (omega arith) (omega arith)) (kept-wider w-put (omega arith) (omega arith))));
+      free = u32-kept 1036 w-put (inl (omega arith)) ∙ u32-kept 1036 z-put (inl (omega arith)) ∙ u32-kept 1036 y-put (inr (omega arith)) ∙ u32-kept 1036 x-put (inr (omega arith));
+    }
+
+    w-reads : 2048 ≤ length b → Reads w active deleted system directory
+    w-reads room = record {
+      active' = u32-kept 1028 w-put (inl (omega arith)) ∙ u32-kept 1028 z-put (inl (omega arith)) ∙ u32-kept 1028 y-put (inl (omega arith)) ∙ rw ex (u32-put-same b 1028 active (omega arith));
+      deleted' = u32-kept 1032 w-put (inl (omega arith)) ∙ u32-kept 1032 z-put (inl (omega arith)) ∙ rw ey (u32-put-same x 1032 deleted (omega (arith, x-put .len)));
+      system' = u16-kept 1040 w-put (inl (omega arith)) ∙ rw ez (u16-put-same y 1040 system (omega (arith, x-put .len, y-put .len)));
+      directory' = rw ew (u16-put-same z 1042 directory (omega (arith, x-put .len, y-put .len, z-put .len)));
+    }
+
+  pub counts-recounted : Recounted b (putCounts b active deleted system directory)
+  unfolding putCounts
+  counts-recounted = w-recounted _ _ _ _ refl refl refl refl
+
+  pub counts-read : 2048 ≤ length b → Reads (putCounts b active deleted system directory) active deleted system directory
+  unfolding putCounts
+  counts-read = w-reads _ _ _ _ refl refl refl refl
+
+-- ---- the three requests, done: there is file f, and it is restated
+
+module _ (b : List ℕ) (g : Good b (placesOf b)) (f : ℕ) (date : List ℕ) (r : ℕ) where
+  abbrev Restates : List ℕ → Type 0
+  Restates d = Parent (viewOf (placesOf b) b) f × Restated (viewOf (placesOf b) b) (viewOf (placesOf b) d) f
+
+  attribute-restates : (c : List ℕ) (a : ℕ) → Recounted b c → Parent (viewOf (placesOf b) b) f → length date ≡ 6 → Restates (putAttribute (placesOf b) c f a date)
+  attribute-restates c a k parent six = (parent, put-restated (placesOf b) b c f a date (g .layout) k (parent .low) (parent .high) six)
+
+  pub removed-restates : Gate (removeTests b f date) r → r ≡ 0 → Restates (removed (placesOf b) b f date)
+  unfolding removed
+  removed-restates gate e = let h = remove-asks b f date r gate e (placesOf b) refl .1 in attribute-restates _ _ (counts-recounted b _ _ _ _) (h .0) (h .1 .1)
+
+  pub recovered-restates : Gate (recoverTests b f date) r → r ≡ 0 → Restates (recovered (placesOf b) b f date)
+  unfolding recovered
+  recovered-restates gate e = let h = recover-asks b f date r gate e (placesOf b) refl .1 in attribute-restates _ _ (counts-recounted b _ _ _ _) (h .0) (h .1 .1)
+
+  pub protected-restates : (w : ℕ) → Gate (protectTests b f w date) r → r ≡ 0 → Restates (protected (placesOf b) b f w date)
+  unfolding protected
+  protected-restates w gate e = let h = protect-asks b f w date r gate e (placesOf b) refl .1 in attribute-restates b _ (same-counted b) (h .0) (h .1 .1)

@@ -6,94 +6,57 @@ use mathlib.Core.Bool.{Bool, true}
 use mathlib.Core.List.{List, []}
 use Prim.Native.Nat.{ℕ, _+_, _-_, _/_, _%_, _≤_, _<_}
 use native.Mathlib.Omega.{arith}
-use lib.Dec.{eqb}
 use lib.ListN.{length}
 use Rattle.field.specs.Says.{Says}
-use Rattle.field.proofs.Sums.{sum-part, sum-le}
+use Rattle.field.proofs.Sums.{sum-part}
 use Rattle.field.proofs.Tests.{says-map}
 use Rattle.tables.specs.declared.places.Places.{Places}
 use Rattle.tables.specs.Dates.{Date}
 use Rattle.tables.specs.Indexes.{tableAt, wordOf, attributeOf}
-use Rattle.tables.specs.Places.{placesOf, Layout}
+use Rattle.tables.specs.Places.{placesOf}
 use Rattle.tables.specs.Sector1.{activeOf, deletedOf, systemOf, directoryOf}
 use Rattle.tables.specs.Gates.{Gate}
 use Rattle.tables.specs.Books.{Good}
 use Rattle.tables.specs.Rules.R8.{directoryBit, systemBit}
 use Rattle.tables.specs.Rules.R9.{deletedBit, activeOne, deletedOne, systemOne, directoryOne}
 use Rattle.tables.specs.Views.{View, viewOf, Parent, tally}
-use Rattle.tables.proofs.CountLaws.{ones-active, ones-deleted, only-le}
+use Rattle.tables.proofs.CountLaws.{ones-active, ones-deleted}
 use Rattle.tables.proofs.GateLaws.{gate-one, gate-fails, gate-passes, gate-end, gate-stop, gate-skip, gate-rest, gate-head, gate-front}
 use Rattle.requests.specs.Create.{argumentTests}
 use Rattle.requests.specs.Named.{fileBytes, namedTests, usableTests}
 use Rattle.requests.specs.State.{putAttribute, putCounts, removed, recovered, protectionOf, protected, removeTests, Removed, removedTests, recoverTests, Recovered, ProtectAllowed, protectTests, Protected}
-use Rattle.requests.proofs.RequestLaws.{after-refused, after-one}
-use Rattle.requests.proofs.CreateLaws.{argument-says, argument-allowed, argument-good}
+use Rattle.requests.proofs.RequestLaws.{after-refused, after-one, good-few}
+use Rattle.requests.proofs.CreateLaws.{argument-says, argument-allowed, argument-good, argument-room}
 use Rattle.requests.proofs.NamedLaws.{attribute-read, parent-read, named-active, usable-active}
 
 -- ---- what the rules say of a file's attribute, and of sector 1's counts
 
 -- what file f adds to a count is part of it
-pub part : (v : View) (one : ℕ → List ℕ → ℕ) (f : ℕ) → Parent v f → one f (v .table f) ≤ tally v one
+part : (v : View) (one : ℕ → List ℕ → ℕ) (f : ℕ) → Parent v f → one f (v .table f) ≤ tally v one
 unfolding tally
 part v one f h =
     let e : f - 1 + 1 ≡ f = omega (arith, h .low) in
     rw e at (sum-part (v .indexes) (f - 1) (λ k. one (k + 1) (v .table (k + 1))) (omega (arith, h .low, h .high)))
 
-few : (v : View) (one : ℕ → List ℕ → ℕ) → ((i : ℕ) (t : List ℕ) → one i t ≤ 1) → tally v one ≤ v .indexes
-unfolding tally
-few v one h = sum-le (v .indexes) (λ k. one (k + 1) (v .table (k + 1))) (λ k l. h (k + 1) (v .table (k + 1)))
+module _ (b : List ℕ) (p : Places) (g : Good b p) (f : ℕ) (h : Parent (viewOf p b) f) where
+  pub weights-few : attributeOf (tableAt p b f) < 128
+  weights-few = g .lawful .r8 f (omega (arith, h .high)) (h .low) (h .word) .weights
 
-active-le : (i : ℕ) (t : List ℕ) → activeOne i t ≤ 1
-unfolding activeOne
-active-le i t = omega (arith, only-le (eqb (wordOf t) i) (1 - deletedBit (attributeOf t)))
+  nonzero : wordOf (tableAt p b f) ≡ 0 → ⊥
+  nonzero e = omega (arith, h .low, h .word)
 
-deleted-le : (i : ℕ) (t : List ℕ) → deletedOne i t ≤ 1
-unfolding deletedOne
-deleted-le i t = omega (arith, only-le (eqb (wordOf t) i) (deletedBit (attributeOf t)))
+  module _ (is : deletedBit (attributeOf (tableAt p b f)) ≡ 0) where
+    pub active-some : 1 ≤ activeOf b
+    active-some = omega (arith, g .lawful .r9 .active, part (viewOf p b) activeOne f h, ones-active f (tableAt p b f) nonzero (h .word) (λ e. omega arith) .active)
 
-system-le : (i : ℕ) (t : List ℕ) → systemOne i t ≤ 1
-unfolding systemOne
-system-le i t = omega (arith, only-le (eqb (activeOne i t) 1) (systemBit (attributeOf t)))
+    pub system-some : systemBit (attributeOf (tableAt p b f)) ≤ systemOf b
+    system-some = rw (ones-active f (tableAt p b f) nonzero (h .word) (λ e. omega arith) .system, ← g .lawful .r9 .system) at (part (viewOf p b) systemOne f h)
 
-directory-le : (i : ℕ) (t : List ℕ) → directoryOne i t ≤ 1
-unfolding directoryOne
-directory-le i t = omega (arith, only-le (eqb (activeOne i t) 1) (directoryBit (attributeOf t)))
+    pub directory-some : directoryBit (attributeOf (tableAt p b f)) ≤ directoryOf b
+    directory-some = rw (ones-active f (tableAt p b f) nonzero (h .word) (λ e. omega arith) .directory, ← g .lawful .r9 .directory) at (part (viewOf p b) directoryOne f h)
 
-module _ (b : List ℕ) (p : Places) (g : Good b p) where
-  active-few : activeOf b ≤ 4096
-  active-few = omega (arith, g .lawful .r9 .active, few (viewOf p b) activeOne active-le, g .layout .few)
-
-  deleted-few : deletedOf b ≤ 4096
-  deleted-few = omega (arith, g .lawful .r9 .deleted, few (viewOf p b) deletedOne deleted-le, g .layout .few)
-
-  system-few : systemOf b ≤ 4096
-  system-few = omega (arith, g .lawful .r9 .system, few (viewOf p b) systemOne system-le, g .layout .few)
-
-  directory-few : directoryOf b ≤ 4096
-  directory-few = omega (arith, g .lawful .r9 .directory, few (viewOf p b) directoryOne directory-le, g .layout .few)
-
-  module _ (f : ℕ) (h : Parent (viewOf p b) f) where
-    weights-few : attributeOf (tableAt p b f) < 128
-    weights-few = g .lawful .r8 f (omega (arith, h .high)) (h .low) (h .word) .weights
-
-    state-table : Layout p (length b) × ((1 ≤ f) × (f ≤ p .indexes))
-    state-table = (g .layout, (h .low, h .high))
-
-    nonzero : wordOf (tableAt p b f) ≡ 0 → ⊥
-    nonzero e = omega (arith, h .low, h .word)
-
-    module _ (is : deletedBit (attributeOf (tableAt p b f)) ≡ 0) where
-      active-some : 1 ≤ activeOf b
-      active-some = omega (arith, g .lawful .r9 .active, part (viewOf p b) activeOne f h, ones-active f (tableAt p b f) nonzero (h .word) (λ e. omega arith) .active)
-
-      system-some : systemBit (attributeOf (tableAt p b f)) ≤ systemOf b
-      system-some = rw (ones-active f (tableAt p b f) nonzero (h .word) (λ e. omega arith) .system, ← g .lawful .r9 .system) at (part (viewOf p b) systemOne f h)
-
-      directory-some : directoryBit (attributeOf (tableAt p b f)) ≤ directoryOf b
-      directory-some = rw (ones-active f (tableAt p b f) nonzero (h .word) (λ e. omega arith) .directory, ← g .lawful .r9 .directory) at (part (viewOf p b) directoryOne f h)
-
-    deleted-some : deletedBit (attributeOf (tableAt p b f)) ≡ 1 → 1 ≤ deletedOf b
-    deleted-some is = omega (arith, g .lawful .r9 .deleted, part (viewOf p b) deletedOne f h, ones-deleted f (tableAt p b f) nonzero (h .word) is .deleted)
+  pub deleted-some : deletedBit (attributeOf (tableAt p b f)) ≡ 1 → 1 ≤ deletedOf b
+  deleted-some is = omega (arith, g .lawful .r9 .deleted, part (viewOf p b) deletedOne f h, ones-deleted f (tableAt p b f) nonzero (h .word) is .deleted)
 
 -- ---- what the code reads
 
@@ -102,10 +65,10 @@ module _ (b : List ℕ) (p : Places) (f : ℕ) (g : Good b p) (h : Parent (viewO
   remove-active n is e = rw e (active-some b p g f h is)
 
   pub remove-deleted : (n : ℕ) → n ≡ deletedOf b → n + 1 < 4294967296
-  remove-deleted n e = omega (arith, deleted-few b p g)
+  remove-deleted n e = omega (arith, good-few b p g .deleted)
 
   pub restore-active : (n : ℕ) → n ≡ activeOf b → n + 1 < 4294967296
-  restore-active n e = omega (arith, active-few b p g)
+  restore-active n e = omega (arith, good-few b p g .active)
 
   pub restore-deleted : (n : ℕ) → deletedBit (attributeOf (tableAt p b f)) ≡ 1 → n ≡ deletedOf b → 1 ≤ n
   restore-deleted n is e = rw e (deleted-some b p g f h is)
@@ -121,10 +84,10 @@ module _ (b : List ℕ) (p : Places) (f : ℕ) (g : Good b p) (h : Parent (viewO
     remove-directory n is e = rw (here, e) (directory-some b p g f h is)
 
     pub restore-system : (n : ℕ) → n ≡ systemOf b → n + a / 64 % 2 < 65536
-    restore-system n e = omega (arith, system-few b p g)
+    restore-system n e = omega (arith, good-few b p g .system)
 
     pub restore-directory : (n : ℕ) → n ≡ directoryOf b → n + a / 32 % 2 < 65536
-    restore-directory n e = omega (arith, directory-few b p g)
+    restore-directory n e = omega (arith, good-few b p g .directory)
 
     pub protect-fits : a < 128
     protect-fits = rw here (weights-few b p g f h)
@@ -196,16 +159,19 @@ module _ (b : List ℕ) (id : ℕ) (date : List ℕ) where
     recover-goes r e h = gate-skip (argumentTests b (Date date)) _ n r (argument-says b a _ n s g) e h
 
   module _ (n : ℕ) (g : Gate (removeTests b id date) n) (e : n ≡ 0) where
-    pub remove-room : 2048 ≤ length b
+    remove-front : Gate (argumentTests b (Date date)) 0
     unfolding removeTests
-    remove-room = omega (arith, argument-good b (Date date) 0 (gate-front (argumentTests b (Date date)) _ (rw e at g)) refl .sized .least)
+    remove-front = gate-front (argumentTests b (Date date)) _ (rw e at g)
+
+    pub remove-room : 2048 ≤ length b
+    remove-room = argument-room b (Date date) 0 remove-front refl
+
+    pub remove-valid : Date date
+    remove-valid = argument-allowed b (Date date) 0 remove-front refl
 
     pub remove-asks : (p : Places) → p ≡ placesOf b → Good b p × (Parent (viewOf p b) id × ((deletedBit (attributeOf (tableAt p b id)) ≡ 0) × (length date ≡ 6)))
     unfolding removeTests
-    remove-asks p is =
-        let front = gate-front (argumentTests b (Date date)) _ (rw e at g) in
-        let f = usable-active 4 b id (gate-rest (argumentTests b (Date date)) _ (rw e at g)) in
-        rw is (argument-good b (Date date) 0 front refl, (f .0, (f .1, argument-allowed b (Date date) 0 front refl .long)))
+    remove-asks p is = let f = usable-active 4 b id (gate-rest (argumentTests b (Date date)) _ (rw e at g)) in rw is (argument-good b (Date date) 0 remove-front refl, (f .0, (f .1, remove-valid .long)))
 
   pub remove-refused : (n : ℕ) → Gate (removeTests b id date) n → n ≢ 0 → Removed b id date n b
   remove-refused n g h = record { number = g; books = after-refused n _ b h }
@@ -214,16 +180,19 @@ module _ (b : List ℕ) (id : ℕ) (date : List ℕ) where
   remove-done n p b' g e is h = record { number = rw e at g; books = h ∙ ap (λ (q : Places). removed q b id date) is }
 
   module _ (n : ℕ) (g : Gate (recoverTests b id date) n) (e : n ≡ 0) where
-    pub recover-room : 2048 ≤ length b
+    recover-front : Gate (argumentTests b (Date date)) 0
     unfolding recoverTests
-    recover-room = omega (arith, argument-good b (Date date) 0 (gate-front (argumentTests b (Date date)) _ (rw e at g)) refl .sized .least)
+    recover-front = gate-front (argumentTests b (Date date)) _ (rw e at g)
+
+    pub recover-room : 2048 ≤ length b
+    recover-room = argument-room b (Date date) 0 recover-front refl
+
+    pub recover-valid : Date date
+    recover-valid = argument-allowed b (Date date) 0 recover-front refl
 
     pub recover-asks : (p : Places) → p ≡ placesOf b → Good b p × (Parent (viewOf p b) id × ((deletedBit (attributeOf (tableAt p b id)) ≡ 1) × (length date ≡ 6)))
     unfolding recoverTests
-    recover-asks p is =
-        let front = gate-front (argumentTests b (Date date)) _ (rw e at g) in
-        let f = named-deleted b id (gate-rest (argumentTests b (Date date)) _ (rw e at g)) in
-        rw is (argument-good b (Date date) 0 front refl, (f .0, (f .1, argument-allowed b (Date date) 0 front refl .long)))
+    recover-asks p is = let f = named-deleted b id (gate-rest (argumentTests b (Date date)) _ (rw e at g)) in rw is (argument-good b (Date date) 0 recover-front refl, (f .0, (f .1, recover-valid .long)))
 
   pub recover-refused : (n : ℕ) → Gate (recoverTests b id date) n → n ≢ 0 → Recovered b id date n b
   recover-refused n g h = record { number = g; books = after-refused n _ b h }
@@ -254,28 +223,27 @@ module _ (b : List ℕ) (id w : ℕ) (date : List ℕ) where
     protect-goes r e h = gate-skip (argumentTests b (ProtectAllowed w date)) _ n r (argument-says b a _ n s g) e h
 
   module _ (n : ℕ) (g : Gate (protectTests b id w date) n) (e : n ≡ 0) where
-    pub protect-room : 2048 ≤ length b
+    protect-front : Gate (argumentTests b (ProtectAllowed w date)) 0
     unfolding protectTests
-    protect-room = omega (arith, argument-good b (ProtectAllowed w date) 0 (gate-front (argumentTests b (ProtectAllowed w date)) _ (rw e at g)) refl .sized .least)
+    protect-front = gate-front (argumentTests b (ProtectAllowed w date)) _ (rw e at g)
+
+    pub protect-room : 2048 ≤ length b
+    protect-room = argument-room b (ProtectAllowed w date) 0 protect-front refl
+
+    pub protect-valid : ProtectAllowed w date
+    protect-valid = argument-allowed b (ProtectAllowed w date) 0 protect-front refl
 
     pub protect-asks : (p : Places) → p ≡ placesOf b → Good b p × (Parent (viewOf p b) id × ((w ≤ 12) × (length date ≡ 6)))
     unfolding protectTests
     protect-asks p is =
-        let front = gate-front (argumentTests b (ProtectAllowed w date)) _ (rw e at g) in
         let f = named-active b id (gate-rest (argumentTests b (ProtectAllowed w date)) _ (rw e at g)) in
-        let a = argument-allowed b (ProtectAllowed w date) 0 front refl in
-        rw is (argument-good b (ProtectAllowed w date) 0 front refl, (f .0, (a .most, a .date' .long)))
+        rw is (argument-good b (ProtectAllowed w date) 0 protect-front refl, (f .0, (protect-valid .most, protect-valid .date' .long)))
 
   pub protect-refused : (n : ℕ) → Gate (protectTests b id w date) n → n ≢ 0 → Protected b id w date n b
   protect-refused n g h = record { number = g; books = after-refused n _ b h }
 
   pub protect-done : (n : ℕ) (p : Places) (b' : List ℕ) → Gate (protectTests b id w date) n → n ≡ 0 → p ≡ placesOf b → b' ≡ protected p b id w date → Protected b id w date 0 b'
   protect-done n p b' g e is h = record { number = rw e at g; books = h ∙ ap (λ (q : Places). protected q b id w date) is }
-
--- ---- the argument's books
-
-pub argued-good : (b : List ℕ) (P : Type 0) (n : ℕ) (p : Places) → Gate (argumentTests b P) n → n ≡ 0 → p ≡ placesOf b → Good b p
-argued-good b P n p g e is = rw is (argument-good b P n g e)
 
 -- ---- one result
 

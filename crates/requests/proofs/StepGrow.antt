@@ -1,64 +1,51 @@
 -- Creates and grow leave the tables of other files, and a file that grows has its sectors where it had them. Assumes nothing.
 use mathlib.Core.Path.{_≡_, refl}
 use mathlib.Core.List.{List}
-use Prim.Native.Nat.{ℕ, _≤_, _<_}
+use Prim.Native.Nat.{ℕ}
 use native.Mathlib.Decide.{decLt}
 use native.Mathlib.Omega.{arith}
 use lib.ListN.{length}
 use borrow.Author.Tests.{lt-ltb, le-ltb}
 use Rattle.tables.specs.declared.counts.Chosen.{Chosen}
-use Rattle.tables.specs.declared.counts.Chosen.the-variants.{Types, Bad}
 use Rattle.tables.specs.Books.{Good}
 use Rattle.tables.specs.Gates.{Gate}
 use Rattle.tables.specs.Indexes.{lengthOf}
 use Rattle.tables.specs.Places.{placesOf}
 use Rattle.tables.specs.Sector1.{firstFreeOf}
 use Rattle.tables.specs.Views.{viewOf, Parent}
-use Rattle.tables.proofs.CountsLaws.{counts-six}
-use Rattle.tables.proofs.GateLaws.{gate-rest, gate-front}
-use Rattle.allocation.specs.Tails.{noPointer}
+use Rattle.allocation.specs.NewLawful.{NewLawful}
 use Rattle.allocation.specs.NewTables.{New}
 use Rattle.allocation.specs.Files.{created}
-use Rattle.allocation.proofs.FileLaws.{length-only}
 use Rattle.files.specs.Unchanged.{Untouched, SamePlaces}
 use Rattle.files.proofs.UntouchedLaws.{untouched-refl, places-refl}
 use Rattle.files.proofs.GrownFrame.{grown-untouched, grown-places, created-untouched, created-new}
 use Rattle.requests.specs.declared.amount.Amount.{Amount}
-use Rattle.requests.specs.declared.amount.Amount.the-variants.{Below, Is}
 use Rattle.requests.specs.declared.create.Created.{Created}
-use Rattle.requests.specs.Create.{argumentTests, numberOf, Creates, countsFor, CreatedFixed, cellType, CreatedVariable}
+use Rattle.requests.specs.Create.{numberOf, Creates, CreatedFixed, CreatedVariable}
 use Rattle.requests.specs.Format.{sizeOf}
 use Rattle.requests.specs.Grow.{growCounts, lackTests, grownTo, Grew}
 use Rattle.requests.specs.Named.{fileBytes}
-use Rattle.requests.proofs.CreateLaws.{argument-allowed, file-fits, room-provides}
+use Rattle.requests.proofs.CreateKeeps.{creates-asks, fixed-lawful, variable-lawful}
 use Rattle.requests.proofs.GrowLaws.{lack-provided, grow-parent, grow-room, grow-date}
 use Rattle.requests.proofs.WriteLaws.{grown-is}
 use Rattle.requests.proofs.StepLeaves.{Leaves, leaves-at, leaves-new, leaves-done}
 
 -- ---- a new file
 
-counts-long : (types : Chosen) (size : Amount) → length (countsFor types size) ≡ 6
-counts-long (Types w) (Is n) = counts-six w n
-counts-long (Types w) Below = refl
-counts-long Bad size = refl
-
 module _ (b : List ℕ) (g : Good b (placesOf b)) (gone : ℕ → Type 0) where
-  -- both creates: where the arguments are allowed, the file's fields fit
-  creates-leaves : (P : Type 0) (counts : List ℕ) (n : New) (r : Created) (b' : List ℕ) → length counts ≡ 6
-      → (P → (length (n .name) ≤ 24) × (length (n .date) ≡ 6) × (n .attribute < 128)) → Creates b P counts n r b' → Leaves b b' 0 gone
-  creates-leaves P counts n r b' six fits h =
+  creates-leaves : (P : Type 0) (counts : List ℕ) (n : New) (r : Created) (b' : List ℕ) → (P → NewLawful n counts × (length counts ≡ 6)) → Creates b P counts n r b' → Leaves b b' 0 gone
+  creates-leaves P counts n r b' new h =
       leaves-done b g 0 gone (numberOf r) (created (placesOf b) b n counts) b' (h .books) (λ z.
-      (let q = rw z at (h .number) in
-      let a = fits (argument-allowed b P 0 (gate-front (argumentTests b P) _ q) refl) in
-      let provided = room-provides b (placesOf b) noPointer counts 0 g six (gate-rest (argumentTests b P) _ q) refl in
-      leaves-new b g 0 gone (created (placesOf b) b n counts) (firstFreeOf b) (created-untouched (placesOf b) b n counts provided (a .0) (a .1) (a .2))
-      (created-new (placesOf b) b n counts provided (a .0) (a .1) (a .2))))
+      (let a = creates-asks b P counts n r b' g new h z in
+      let l = a .0 in
+      leaves-new b g 0 gone (created (placesOf b) b n counts) (firstFreeOf b) (created-untouched (placesOf b) b n counts (a .1) (l .name .most) (l .date .long) (l .weights))
+      (created-new (placesOf b) b n counts (a .1) (l .name .most) (l .date .long) (l .weights))))
 
   pub fixed-leaves : (name : List ℕ) (size : Amount) (types : Chosen) (kind : ℕ) (date : List ℕ) (r : Created) (b' : List ℕ) → CreatedFixed b name size types kind date r b' → Leaves b b' 0 gone
-  fixed-leaves name size types kind date r b' = creates-leaves _ _ _ r b' (counts-long types size) (λ a. file-fits name kind date 0 _ (omega arith) (a .file) refl)
+  fixed-leaves name size types kind date r b' = creates-leaves _ _ _ r b' (fixed-lawful name size types kind date)
 
   pub variable-leaves : (name : List ℕ) (cell : Amount) (kind : ℕ) (date : List ℕ) (r : Created) (b' : List ℕ) → CreatedVariable b name cell kind date r b' → Leaves b b' 0 gone
-  variable-leaves name cell kind date r b' = creates-leaves _ _ _ r b' (length-only (cellType cell) 1) (λ a. file-fits name kind date 1 _ (omega arith) (a .file) refl)
+  variable-leaves name cell kind date r b' = creates-leaves _ _ _ r b' (variable-lawful name cell kind date)
 
 -- ---- a file that grows
 

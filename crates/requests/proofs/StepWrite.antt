@@ -3,102 +3,64 @@ use mathlib.Core.Path.{_≡_, refl, sym, ap, _∙_}
 use mathlib.Core.Logic.{_≢_}
 use mathlib.Core.Bool.{Bool}
 use mathlib.Core.List.{List}
-use Prim.Native.Nat.{ℕ, _+_, _-_, _/_, _≤_, _<_}
+use Prim.Native.Nat.{ℕ, zero, suc, _+_, _-_, _/_, _≤_, _<_}
 use native.Mathlib.Decide.{ℕ-discrete}
 use native.Mathlib.Omega.{arith}
 use lib.ListN.{length}
-use borrow.Author.Tests.{eq-eqb, ne-eqb}
-use Rattle.field.proofs.Frames.{kept-refl}
 use Rattle.tables.specs.declared.places.Places.{Places}
 use Rattle.tables.specs.Books.{Good}
 use Rattle.tables.specs.Dates.{Date}
 use Rattle.tables.specs.Gates.{Gate}
 use Rattle.tables.specs.Lawful.{Lawful}
 use Rattle.tables.specs.Places.{placesOf, Layout}
-use Rattle.tables.specs.Rules.R8.{fileSectors}
-use Rattle.tables.specs.Views.{View, viewOf, Parent}
+use Rattle.tables.specs.Sector1.{flagOf}
+use Rattle.tables.specs.Views.{viewOf, Parent}
 use Rattle.files.specs.Moves.{moved, sectorBytes, piece, filled, Movable}
 use Rattle.files.specs.Spots.{kthSector}
 use Rattle.files.specs.Unchanged.{Untouched, SamePlaces}
 use Rattle.files.proofs.MoveLaws.{filled-in, filled-out}
 use Rattle.files.proofs.PlaceLaws.{place-one}
 use Rattle.files.proofs.SpotLaws.{kth-inside}
-use Rattle.files.proofs.UntouchedLaws.{untouched-trans, places-trans}
+use Rattle.files.proofs.UntouchedLaws.{untouched-refl, untouched-trans, places-refl, places-trans}
 use Rattle.requests.specs.declared.amount.Amount.{Amount}
 use Rattle.requests.specs.declared.answer.Answer.{Answer}
-use Rattle.requests.specs.Answers.{numberOf}
+use Rattle.requests.specs.Answers.{after, numberOf}
 use Rattle.requests.specs.Format.{sizeOf}
 use Rattle.requests.specs.Grow.{lackTests, grownTo}
 use Rattle.requests.specs.Read.{wholeSectors}
 use Rattle.requests.specs.Write.{askedLength, settle, writtenBooks, writtenBody, Wrote}
 use Rattle.requests.specs.History.{Volume, seen, Belongs, Puts}
 use Rattle.requests.proofs.RequestLaws.{after-refused}
-use Rattle.requests.proofs.WriteLaws.{Grown, grown-is, write-allows, write-parent, write-lack}
-use Rattle.requests.proofs.WriteKeeps.{written-good, written-parent, wrote-asks}
-use Rattle.requests.proofs.StepLeaves.{Leaves, leaves-at, leaves-same, leaves-done}
-use Rattle.requests.proofs.StepState.{Restates, attribute-restates, restates-back, restates-untouched, restates-sectors, restates-places}
+use Rattle.requests.proofs.WriteLaws.{write-allows, write-parent, write-lack}
+use Rattle.requests.proofs.WriteKeeps.{some-written, none-written, grown, grown-good, settles, written-parent, written-flag, wrote-asks}
+use Rattle.requests.proofs.StepLeaves.{Leaves, leaves-at, leaves-done}
+use Rattle.requests.proofs.StepState.{restates-frame}
 use Rattle.requests.proofs.StepGrow.{longer-frame}
 
 -- ---- the books
 
--- both hold the other way round too
-untouched-back : (u v : View) (f : ℕ) → Untouched u v f → Untouched v u f
-untouched-back u v f h = record {
-  indexes = sym (h .indexes);
-  was = λ j lo hi nz nf. sym (h .now j lo (rw (h .indexes) at hi) nz nf);
-  now = λ j lo hi nz nf. sym (h .was j lo (rw (h .indexes) at hi) nz nf);
-}
-
-places-back : (u v : View) (f : ℕ) → fileSectors v f ≡ fileSectors u f → SamePlaces u v f → SamePlaces v u f
-places-back u v f e h = record { most = omega arith; place = λ k l. sym (h .place k (omega arith)) }
-
--- the attribute settled
-settle-restates : (b : List ℕ) (id : ℕ) (date : List ℕ) (p : Places) → p ≡ placesOf b → Layout p (length b) → Parent (viewOf p b) id → length date ≡ 6 → Restates p b (settle b id date) id
-unfolding settle
-settle-restates b id date p e lay parent six =
-    rw e (attribute-restates (placesOf b) b b id _ date (rw e at lay) (kept-refl b 1028 16) (parent .low) (rw e at (parent .high)) six)
-
 module _ (b : List ℕ) (g : Good b (placesOf b)) (id at n : ℕ) (date : List ℕ) (parent : Parent (viewOf (placesOf b) b) id) (room : Gate (lackTests b id (askedLength b id at n)) 0)
-    (valid : Date date) (gone : ℕ → Type 0) where
+    (valid : Date date) where
   abbrev p : Places
   p = placesOf b
 
   abbrev b₁ : List ℕ
   b₁ = grownTo b id (askedLength b id at n) date
 
-  grown : Grown b id (askedLength b id at n) b₁
-  grown = grown-is b id (askedLength b id at n) date g parent room (valid .long)
+  abbrev b₂ : List ℕ
+  b₂ = settle b₁ id date
 
-  -- the settled books c, which are good, and those before, back from them
-  module _ (c : List ℕ) (is : c ≡ settle b₁ id date) (good : Good c p) (now : Parent (viewOf p c) id) where
-    back : Restates p c b₁ id
-    back = restates-back p b₁ c id (rw is (settle-restates b₁ id date p (sym (grown .places)) (rw (grown .len) (g .layout)) (grown .parent) (valid .long)))
+  settled-frame : Untouched (viewOf p b) (viewOf p b₂) id × SamePlaces (viewOf p b) (viewOf p b₂) id
+  settled-frame =
+      let first = longer-frame b g id (askedLength b id at n) date parent room (valid .long) in
+      let good = grown-good b id at n date g parent room valid in
+      let last = restates-frame p b₁ (good .layout) (good .lawful) b₂ id (grown b id at n date g parent room valid .parent) (settles b id at n date g parent room valid .restated) in
+      (untouched-trans (viewOf p b) (viewOf p b₁) (viewOf p b₂) id (first .0) (last .0), places-trans (viewOf p b) (viewOf p b₁) (viewOf p b₂) id (first .1) (last .1))
 
-    settled-untouched : Untouched (viewOf p b₁) (viewOf p c) id
-    settled-untouched = untouched-back (viewOf p c) (viewOf p b₁) id (restates-untouched p c (good .layout) (good .lawful) b₁ id now back)
-
-    settled-places : SamePlaces (viewOf p b₁) (viewOf p c) id
-    settled-places =
-        places-back (viewOf p c) (viewOf p b₁) id (restates-sectors p c (good .layout) (good .lawful) b₁ id now back) (restates-places p c (good .layout) (good .lawful) b₁ id now back)
-
-    settled-leaves : Leaves b c id gone
-    settled-leaves =
-        let frame = longer-frame b g id (askedLength b id at n) date parent room (valid .long) in
-        leaves-at b g id gone c id (untouched-trans (viewOf p b) (viewOf p b₁) (viewOf p c) id (frame .0) settled-untouched) (λ h stands ne. ne)
-        (λ stands kept. (now, places-trans (viewOf p b) (viewOf p b₁) (viewOf p c) id (frame .1) settled-places))
-
-  some-settled : n ≢ 0 → writtenBooks b id at n date ≡ settle b₁ id date
-  unfolding writtenBooks
-  some-settled ne = rw (ne-eqb n 0 ne)
-
-  none-settled : n ≡ 0 → writtenBooks b id at n date ≡ b
-  unfolding writtenBooks
-  none-settled e = rw (eq-eqb n 0 e)
-
-  written-leaves : Leaves b (writtenBooks b id at n date) id gone
-  written-leaves = elim (ℕ-discrete n 0) [
-    | yes e ↦ leaves-same b g id gone (writtenBooks b id at n date) (none-settled e)
-    | no ne ↦ settled-leaves (writtenBooks b id at n date) (some-settled ne) (written-good b id at n date g parent room valid) (written-parent b id at n date g parent room valid)
+  written-frame : Untouched (viewOf p b) (viewOf p (writtenBooks b id at n date)) id × SamePlaces (viewOf p b) (viewOf p (writtenBooks b id at n date)) id
+  written-frame = elim (ℕ-discrete n 0) [
+    | yes e ↦ rw (none-written b id at n date e) (untouched-refl (viewOf p b) id, places-refl (viewOf p b) id)
+    | no ne ↦ rw (some-written b id at n date ne) settled-frame
   ]
 
 -- ---- the request
@@ -111,12 +73,39 @@ module _ (v v' : Volume) (id : ℕ) (position long : Amount) (x : Bool) (input d
   abbrev n : ℕ
   n = wholeSectors (sizeOf long)
 
-  pub wrote-leaves : Good (v .books) (placesOf (v .books)) → (gone : ℕ → Type 0) → Leaves (v .books) (v' .books) id gone
-  wrote-leaves g gone =
-      leaves-done (v .books) g id gone (numberOf r) (writtenBooks (v .books) id at n date) (v' .books) (h .books) (λ e.
-      written-leaves (v .books) g id at n date (write-parent (v .books) (v .body) id position long (length input) date (numberOf r) (h .number) e)
-      (write-lack (v .books) (v .body) id position long (length input) date (numberOf r) (h .number) e)
-      (write-allows (v .books) (v .body) id position long (length input) date (numberOf r) (h .number) e .date') gone)
+  abbrev b : List ℕ
+  b = v .books
+
+  abbrev new : List ℕ
+  new = writtenBooks b id at n date
+
+  module _ (g : Good b (placesOf b)) where
+    module _ (done : numberOf r ≡ 0) where
+      here : Parent (viewOf (placesOf b) b) id
+      here = write-parent b (v .body) id position long (length input) date (numberOf r) (h .number) done
+
+      room : Gate (lackTests b id (askedLength b id at n)) 0
+      room = write-lack b (v .body) id position long (length input) date (numberOf r) (h .number) done
+
+      valid : Date date
+      valid = write-allows b (v .body) id position long (length input) date (numberOf r) (h .number) done .date'
+
+      frame : Untouched (viewOf (placesOf b) b) (viewOf (placesOf b) new) id × SamePlaces (viewOf (placesOf b) b) (viewOf (placesOf b) new) id
+      frame = written-frame b g id at n date here room valid
+
+    pub wrote-leaves : (gone : ℕ → Type 0) → Leaves b (v' .books) id gone
+    wrote-leaves gone =
+        leaves-done b g id gone (numberOf r) new (v' .books) (h .books) (λ e.
+        leaves-at b g id gone new id (frame e .0) (λ f stands ne. ne) (λ stands kept. (written-parent b id at n date g (here e) (room e) (valid e), frame e .1)))
+
+    -- no other file comes to be, and the flag stays
+    pub wrote-steady : Untouched (viewOf (placesOf b) b) (viewOf (placesOf b) (v' .books)) id × (flagOf (v' .books) ≡ flagOf b)
+    wrote-steady = go (numberOf r) (h .books) (λ e. (frame e .0, written-flag b id at n date g (here e) (room e) (valid e)))
+      where
+        go : (m : ℕ) → v' .books ≡ after m new b → (m ≡ 0 → Untouched (viewOf (placesOf b) b) (viewOf (placesOf b) new) id × (flagOf new ≡ flagOf b))
+            → Untouched (viewOf (placesOf b) b) (viewOf (placesOf b) (v' .books)) id × (flagOf (v' .books) ≡ flagOf b)
+        go zero e k = rw e (k refl)
+        go (suc m) e k = rw e (untouched-refl (viewOf (placesOf b) b) id, refl)
 
   refused-same : numberOf r ≢ 0 → v' .body ≡ v .body
   refused-same ne = h .body'' ∙ sym (after-refused (numberOf r) _ (v .body) ne)

@@ -1,15 +1,14 @@
 -- Text: digits one by one, how many there are, and pieces written one behind the other. Assumes nothing.
 use mathlib.Core.Path.{_≡_, refl, sym, ap, ap₂, _∙_}
-use mathlib.Core.Logic.{_≢_}
 use mathlib.Core.List.{List, [], _∷_, _++_, append-assoc, append-nil}
 use Prim.Native.Nat.{ℕ, zero, suc, _+_, _-_, _*_, _/_, _%_, _^_, _≤_, _<_}
 use native.Mathlib.Nat.{add-assoc}
 use native.Mathlib.Decide.{decLt}
 use native.Mathlib.Omega.{arith}
-use lib.ListN.{length, getD, set, take, drop, length-append, length-set, length-take, length-drop, drop-of-length-le}
+use lib.ListN.{length, set, take, drop, length-append, length-set, length-drop, drop-of-length-le}
 use lib.Pow.{pow-add}
 use native.Mathlib.Numerals.{add-one}
-use lib.Seq.{drop-cons, drop-set-lt, getD-set-same, length-take-le, take-all, take-at, drop-at, drop-drop, drop-append-add}
+use lib.Seq.{drop-cons, drop-set-lt, getD-set-same, length-take-le, take-all, take-at, drop-drop, drop-append-add}
 use borrow.Author.Tests.{lt-ltb, le-ltb}
 use Rattle.field.specs.Parts.{over}
 use Rattle.field.proofs.PartLaws.{length-over}

@@ -22,6 +22,7 @@ use Rattle.tables.specs.Places.{placesOf, Layout}
 use Rattle.tables.specs.Lawful.{Lawful}
 use Rattle.tables.specs.Room.{countAt, perZone, typeIn, takenOf, Supply}
 use Rattle.tables.specs.Rules.R8.{fileSectors, fileType, variableBit}
+use Rattle.tables.specs.Sector1.{flagOf}
 use Rattle.tables.specs.Views.{View, viewOf, Parent, onlyIf}
 use Rattle.tables.proofs.CountLaws.{only-eq, only-le}
 use Rattle.tables.proofs.GateLaws.{gate-head}
@@ -41,7 +42,8 @@ use Rattle.requests.specs.Read.{wholeSectors}
 use Rattle.requests.specs.Write.{WriteAllowed, Within, askedLength, writeTests, settled, settle, writtenBooks, writtenBody, Wrote}
 use Rattle.requests.proofs.RequestLaws.{good-room}
 use Rattle.requests.proofs.CreateKeeps.{grown-keeps}
-use Rattle.requests.proofs.StateKeeps.{steady-good, steady-parent, steady-length}
+use Rattle.requests.proofs.StampLaws.{Restated, restated-parent, same-counted, put-stamped, put-restated, put-fields}
+use Rattle.requests.proofs.StateKeeps.{steady-good}
 use Rattle.requests.proofs.ReadLaws.{file-here}
 use Rattle.requests.proofs.WriteLaws.{asked-variable, Grown, grown-is, write-allows, write-good, write-parent, write-sized, write-within, write-lack}
 
@@ -91,20 +93,26 @@ settled-lowest : (a : ℕ) → settled a % 2 ≡ a % 2
 unfolding settled
 settled-lowest a = omega arith
 
--- in good books b' file id is as long as in b
-record Settled (b : List ℕ) (id : ℕ) (p : Places) (b' : List ℕ) : Type 0 where
-  good : Good b' p
-  parent : Parent (viewOf p b') id
-  long : lengthOf (tableAt p b' id) ≡ lengthOf (tableAt p b id)
+-- in good books b' file id is as in b but for its attribute and date
+pub record Settled (b : List ℕ) (id : ℕ) (p : Places) (b' : List ℕ) : Type 0 where
+  pub good : Good b' p
+  pub restated : Restated (viewOf p b) (viewOf p b') id
+  pub parent : Parent (viewOf p b') id
+  pub flag : flagOf b' ≡ flagOf b
+  pub long : lengthOf (tableAt p b' id) ≡ lengthOf (tableAt p b id)
 
 settle-here : (b : List ℕ) (id : ℕ) (date : List ℕ) → Good b (placesOf b) → Parent (viewOf (placesOf b) b) id → Date date → Settled b id (placesOf b) (settle b id date)
 unfolding settle
 settle-here b id date g parent valid =
+    let p = placesOf b in
     let a = attributeOf (fileBytes b id) in
+    let restated = put-restated p b b id (settled a) date (g .layout) (same-counted b) (parent .low) (parent .high) (valid .long) in
     record {
-      good = steady-good (placesOf b) b id date g parent valid (settled a) (settled-above a) (settled-lowest a);
-      parent = steady-parent (placesOf b) b id date g parent valid (settled a) (settled-above a) (settled-lowest a);
-      long = steady-length (placesOf b) b id date g parent valid (settled a) (settled-above a) (settled-lowest a);
+      good = steady-good p b id date g parent valid (settled a) (settled-above a) (settled-lowest a);
+      restated = restated;
+      parent = restated-parent (viewOf p b) _ id restated parent;
+      flag = put-stamped p b b id (settled a) date (g .layout) (same-counted b) (parent .low) (parent .high) (valid .long) .counts .flag;
+      long = put-fields p b b id (settled a) date (g .layout) (same-counted b) (parent .low) (parent .high) (valid .long) .long';
     }
 
 settle-keeps : (b : List ℕ) (id : ℕ) (date : List ℕ) (p : Places) → Good b p → Parent (viewOf p b) id → Date date → Settled b id p (settle b id date)
@@ -125,36 +133,40 @@ asked-grows b id at n = go (eqb n 0) (eqb v 1) refl
     go false true e l = eqb-true v 1 e
     go false false e l = absurd (omega arith)
 
+module _ (b : List ℕ) (id at n : ℕ) (date : List ℕ) where
+  pub some-written : n ≢ 0 → writtenBooks b id at n date ≡ settle (grownTo b id (askedLength b id at n) date) id date
+  unfolding writtenBooks
+  some-written ne = rw (ne-eqb n 0 ne)
+
+  pub none-written : n ≡ 0 → writtenBooks b id at n date ≡ b
+  unfolding writtenBooks
+  none-written e = rw (eq-eqb n 0 e)
+
 module _ (b : List ℕ) (id at n : ℕ) (date : List ℕ) (g : Good b (placesOf b)) (parent : Parent (viewOf (placesOf b) b) id) (room : Gate (lackTests b id (askedLength b id at n)) 0) (valid : Date date) where
   abbrev b₁ : List ℕ
   b₁ = grownTo b id (askedLength b id at n) date
 
-  grown : Grown b id (askedLength b id at n) b₁
+  pub grown : Grown b id (askedLength b id at n) b₁
   grown = grown-is b id (askedLength b id at n) date g parent room (valid .long)
 
-  grown-good : Good b₁ (placesOf b)
+  pub grown-good : Good b₁ (placesOf b)
   grown-good = grown-keeps b id (askedLength b id at n) date g parent room valid (λ l. (asked-grows b id at n (omega arith), room-few b id (askedLength b id at n) g parent room l))
 
-  settles : Settled b₁ id (placesOf b) (settle b₁ id date)
+  pub settles : Settled b₁ id (placesOf b) (settle b₁ id date)
   settles = settle-keeps b₁ id date (placesOf b) grown-good (grown .parent) valid
 
-  some-written : n ≢ 0 → writtenBooks b id at n date ≡ settle b₁ id date
-  unfolding writtenBooks
-  some-written ne = rw (ne-eqb n 0 ne)
-
-  none-written : n ≡ 0 → writtenBooks b id at n date ≡ b
-  unfolding writtenBooks
-  none-written e = rw (eq-eqb n 0 e)
-
-  pub written-good : Good (writtenBooks b id at n date) (placesOf b)
-  written-good = elim (ℕ-discrete n 0) [ yes e ↦ rw (none-written e) g | no ne ↦ rw (some-written ne) (settles .good) ]
+  written-good : Good (writtenBooks b id at n date) (placesOf b)
+  written-good = elim (ℕ-discrete n 0) [ yes e ↦ rw (none-written b id at n date e) g | no ne ↦ rw (some-written b id at n date ne) (settles .good) ]
 
   pub written-parent : Parent (viewOf (placesOf b) (writtenBooks b id at n date)) id
-  written-parent = elim (ℕ-discrete n 0) [ yes e ↦ rw (none-written e) parent | no ne ↦ rw (some-written ne) (settles .parent) ]
+  written-parent = elim (ℕ-discrete n 0) [ yes e ↦ rw (none-written b id at n date e) parent | no ne ↦ rw (some-written b id at n date ne) (settles .parent) ]
+
+  pub written-flag : flagOf (writtenBooks b id at n date) ≡ flagOf b
+  written-flag = elim (ℕ-discrete n 0) [ yes e ↦ ap flagOf (none-written b id at n date e) | no ne ↦ ap flagOf (some-written b id at n date ne) ∙ settles .flag ∙ grown .flag ]
 
   -- the bytes written are within the file's sectors
-  pub written-sectors : n ≢ 0 → Within b id at n → at + n ≤ 1024 * fileSectors (viewOf (placesOf b) (writtenBooks b id at n date)) id
-  written-sectors ne w = rw (some-written ne) within
+  written-sectors : n ≢ 0 → Within b id at n → at + n ≤ 1024 * fileSectors (viewOf (placesOf b) (writtenBooks b id at n date)) id
+  written-sectors ne w = rw (some-written b id at n date ne) within
     where
       within : at + n ≤ 1024 * fileSectors (viewOf (placesOf b) (settle b₁ id date)) id
       within =

@@ -1,6 +1,6 @@
 -- Write: each way out, what its parts ask, the books once the file has grown, and that the promise allows one result. Assumes nothing.
 use mathlib.Core.Path.{_≡_, refl, sym, ap, ap₂, _∙_}
-use mathlib.Core.Logic.{_≢_, inl, inr}
+use mathlib.Core.Logic.{_≢_, inl}
 use mathlib.Core.Bool.{Bool, not, true, false}
 use mathlib.Core.List.{List}
 use Prim.Native.Nat.{ℕ, zero, suc, _+_, _-_, _*_, _/_, _%_, _≤_, _<_}
@@ -14,7 +14,6 @@ use Rattle.field.specs.Numbers.{u32At, putU32}
 use Rattle.field.specs.Kept.{Kept}
 use Rattle.field.specs.Parts.{over}
 use Rattle.field.proofs.NumberLaws.{u32-kept, kept-putU32, u32-put-same}
-use Rattle.field.proofs.PartLaws.{kept-over}
 use Rattle.field.proofs.Tests.{passed, refused, says-map}
 use Rattle.tables.specs.declared.places.Places.{Places}
 use Rattle.tables.specs.Books.{Good}
@@ -23,8 +22,8 @@ use Rattle.tables.specs.Gates.{Gate}
 use Rattle.tables.specs.Indexes.{tableAt, wordOf, lengthOf, attributeOf}
 use Rattle.tables.specs.Places.{placesOf, Layout}
 use Rattle.tables.specs.Rules.R8.{variableBit}
+use Rattle.tables.specs.Sector1.{flagOf}
 use Rattle.tables.specs.Views.{viewOf, Parent}
-use Rattle.tables.proofs.FrameLaws.{table-kept}
 use Rattle.tables.proofs.GateLaws.{gate-one, gate-fails, gate-passes, gate-stop, gate-skip, gate-rest, gate-head, gate-front}
 use Rattle.tables.proofs.IndexLaws.{length-table}
 use Rattle.allocation.specs.Choice.{inOrder, inTurn}
@@ -33,6 +32,7 @@ use Rattle.allocation.specs.Growth.{Growth, addBlock}
 use Rattle.allocation.specs.Last.{cursorOf}
 use Rattle.allocation.specs.Lengthened.{Lengthened}
 use Rattle.allocation.specs.NewTables.{tablePlace}
+use Rattle.allocation.specs.Ready.{Ready}
 use Rattle.allocation.proofs.AddHeld.{adds-held}
 use Rattle.allocation.proofs.FileLaws.{ready-grow}
 use Rattle.allocation.proofs.GrownLawful.{cursor-ends}
@@ -57,6 +57,8 @@ use Rattle.requests.proofs.NamedLaws.{attribute-read, body-usable}
 use Rattle.requests.proofs.FixedLaws.{le-says}
 use Rattle.requests.proofs.GrowLaws.{lack-provided, not-below}
 use Rattle.requests.proofs.ReadLaws.{body-parent}
+use Rattle.requests.proofs.StampLaws.{Stamped, table-dated, stamped-own, stamped}
+use Rattle.requests.proofs.FlagLaws.{flag-turn}
 
 -- ---- arguments
 
@@ -189,43 +191,21 @@ module _ (b : List ℕ) (p : Places) (is : p ≡ placesOf b) where
 
 -- ---- the books: the length
 
--- the length and the dates written: the first 1,028 bytes stay, and of the file's table its first word
+-- the length and the dates written: of the file's table its first word stays
 module _ (p : Places) (b : List ℕ) (f long : ℕ) (date : List ℕ) (lay : Layout p (length b)) (lo : 1 ≤ f) (hi : f ≤ p .indexes) (six : length date ≡ 6) where
-  module _ (x y z : List ℕ) (ex : x ≡ over b (tablePlace p f + 34) date) (ey : y ≡ putU32 x (tablePlace p f + 40) long) (ez : z ≡ over y 1044 date) where
-    x-kept : Kept b x (tablePlace p f + 34) 6
-    x-kept = rw (six, ← ex) at (kept-over b (tablePlace p f + 34) date (omega arith))
-
-    y-kept : Kept x y (tablePlace p f + 40) 4
-    y-kept = rw ey (kept-putU32 x (tablePlace p f + 40) long)
-
-    z-kept : Kept y z 1044 6
-    z-kept = rw (six, ← ez) at (kept-over y 1044 date (omega (arith, x-kept .len, y-kept .len)))
-
-    z-len : length z ≡ length b
-    z-len = z-kept .len ∙ y-kept .len ∙ x-kept .len
-
-    z-low : (j : ℕ) → j < 1028 → getD z j 0 ≡ getD b j 0
-    z-low j l = z-kept .out j (inl (omega arith)) ∙ y-kept .out j (inl (omega arith)) ∙ x-kept .out j (inl (omega arith))
-
-    z-table : tableAt p z f ≡ putU32 (over (tableAt p b f) 34 date) 40 long
-    z-table =
-        table-kept p f z-kept (inr (omega arith)) ∙ ap (λ (w : List ℕ). tableAt p w f) ey ∙ table-put32 p x f 40 long (omega arith)
-        ∙ ap (λ (t : List ℕ). putU32 t 40 long) (ap (λ (w : List ℕ). tableAt p w f) ex ∙ table-over p b f 34 date lay lo hi (omega arith))
-
-  put-len : length (putLength p b f long date) ≡ length b
+  length-stamped : Stamped p b (putLength p b f long date) f
   unfolding putLength
-  put-len = z-len _ _ _ refl refl refl
-
-  put-low : (j : ℕ) → j < 1028 → getD (putLength p b f long date) j 0 ≡ getD b j 0
-  unfolding putLength
-  put-low = z-low _ _ _ refl refl refl
+  length-stamped = stamped p b f date lay lo hi six _ 40 4 (omega arith) (kept-putU32 (over b (tablePlace p f + 34) date) (tablePlace p f + 40) long)
 
   put-table : tableAt p (putLength p b f long date) f ≡ putU32 (over (tableAt p b f) 34 date) 40 long
   unfolding putLength
-  put-table = z-table _ _ _ refl refl refl
+  put-table =
+      let x = over b (tablePlace p f + 34) date in
+      stamped-own p b f date lay lo hi six _ 40 4 (omega arith) (kept-putU32 x (tablePlace p f + 40) long) ∙ table-put32 p x f 40 long (omega arith)
+      ∙ ap (λ (t : List ℕ). putU32 t 40 long) (table-over p b f 34 date lay lo hi (omega arith))
 
   dated : Kept (tableAt p b f) (over (tableAt p b f) 34 date) 34 6
-  dated = rw six at (kept-over (tableAt p b f) 34 date (omega (arith, length-table p b f lay lo hi)))
+  dated = table-dated p b f date lay lo hi six
 
   put-word : wordOf (tableAt p (putLength p b f long date) f) ≡ wordOf (tableAt p b f)
   put-word = ap wordOf put-table ∙ u32-kept 0 (kept-putU32 (over (tableAt p b f) 34 date) 40 long) (inl (omega arith)) ∙ u32-kept 0 dated (inl (omega arith))
@@ -246,6 +226,7 @@ module _ (b b' : List ℕ) (low : (j : ℕ) → j < 1028 → getD b' j 0 ≡ get
 pub record Grown (b : List ℕ) (id long : ℕ) (b' : List ℕ) : Type 0 where
   pub places : placesOf b' ≡ placesOf b
   pub len : length b' ≡ length b
+  pub flag : flagOf b' ≡ flagOf b
   pub parent : Parent (viewOf (placesOf b) b') id
   pub long' : long ≤ lengthOf (tableAt (placesOf b) b' id)
   pub more : lengthOf (fileBytes b id) ≤ lengthOf (tableAt (placesOf b) b' id)
@@ -264,10 +245,13 @@ module _ (b : List ℕ) (id long : ℕ) (date : List ℕ) (g : Good b (placesOf 
   a = inTurn (addBlock p id) (inOrder counts) start .books
 
   module _ (l : lengthOf (fileBytes b id) < long) where
+    ready : Ready p id start (inOrder counts)
+    ready = ready-grow p b id counts (lack-provided b id long g room l) parent
+
     lengthened : Lengthened p id start (inTurn (addBlock p id) (inOrder counts) start) (inOrder counts)
     lengthened =
         let w = g .lawful in
-        adds-held p id (inOrder counts) start (ready-grow p b id counts (lack-provided b id long g room l) parent)
+        adds-held p id (inOrder counts) start ready
         (lawful-held (viewOf p b) id (w .r2) (w .r3) (w .r4) (w .r5) (w .r6) (w .r7) (w .r8) (w .r9)) (cursor-ends p b id w parent)
 
     lay : Layout p (length a)
@@ -279,9 +263,11 @@ module _ (b : List ℕ) (id long : ℕ) (date : List ℕ) (g : Good b (placesOf 
         let lo = parent .low in
         let hi = parent .high in
         let is = put-long p a id long date lay lo hi six in
+        let s = length-stamped p a id long date lay lo hi six in
         record {
-          places = low-places b (putLength p a id long date) (λ j k. put-low p a id long date lay lo hi six j k ∙ lengthened .quiet .low j k);
-          len = put-len p a id long date lay lo hi six ∙ lengthened .quiet .len;
+          places = low-places b (putLength p a id long date) (λ j k. s .quiet .low j k ∙ lengthened .quiet .low j k);
+          len = s .quiet .len ∙ lengthened .quiet .len;
+          flag = s .counts .flag ∙ flag-turn p id start (inOrder counts) ready;
           parent = record { low = lo; high = hi; word = put-word p a id long date lay lo hi six ∙ lengthened .ends .parent .word };
           long' = omega (arith, is);
           more = omega (arith, is);
@@ -291,7 +277,7 @@ module _ (b : List ℕ) (id long : ℕ) (date : List ℕ) (g : Good b (placesOf 
   unfolding grownTo
   grown-is = elim (decLt (lengthOf (fileBytes b id)) long) [
     | yes l ↦ rw (lt-ltb (lengthOf (fileBytes b id)) long l) (longer l)
-    | no nl ↦ rw (le-ltb (lengthOf (fileBytes b id)) long (omega arith)) (record { places = refl; len = refl; parent = parent; long' = omega arith; more = omega arith })
+    | no nl ↦ rw (le-ltb (lengthOf (fileBytes b id)) long (omega arith)) (record { places = refl; len = refl; flag = refl; parent = parent; long' = omega arith; more = omega arith })
   ]
 
 -- ---- the books, written

@@ -7,6 +7,7 @@ use Rattle.tables.specs.Sector0.{zonesOf}
 use Rattle.tables.specs.Gates.{Test, asks}
 use Rattle.requests.specs.Named.{usableTests}
 
+-- the body has that many bytes
 abbrev pub BodySized : List ℕ → List ℕ → Type 0
 BodySized b body = length body ≡ 1048576 * (zonesOf b - 2)
 

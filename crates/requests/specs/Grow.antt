@@ -6,7 +6,7 @@ use mathlib.Core.List.{List, [], _∷_, _++_}
 use Prim.Native.Nat.{ℕ, _≤_, _<_}
 use lib.Dec.{ltb}
 use Rattle.tables.specs.Dates.{Date}
-use Rattle.tables.specs.Indexes.{tableAt, lengthOf, attributeOf}
+use Rattle.tables.specs.Indexes.{lengthOf, attributeOf}
 use Rattle.tables.specs.Places.{placesOf}
 use Rattle.tables.specs.Gates.{Test, asks, Gate}
 use Rattle.tables.specs.Room.{countAt, Supply}
@@ -26,6 +26,7 @@ abbrev pub NotBelow : Amount → Type 0
 NotBelow Below = ⊥
 NotBelow (Is n) = n ≤ 2147483647
 
+-- what grow asks of its arguments
 pub record GrowAllowed (long : Amount) (date : List ℕ) : Type 0 where
   pub long' : NotBelow long
   pub date' : Date date

@@ -34,6 +34,7 @@ fronts v (i ∷ ids) = take 64 (v .table i) ++ fronts v ids
 abbrev pub listTests : List ℕ → ℕ → List Test
 listTests b from = argumentTests b (1 ≤ from)
 
+-- list's promise
 pub record Listed (b : List ℕ) (from : ℕ) (entries : List ℕ) (r : Answer) (entries' : List ℕ) : Type 0 where
   pub number : Gate (listTests b from) (numberOf r)
   pub answer : r ≡ answerOf (numberOf r) (length (listed b from (length entries)))

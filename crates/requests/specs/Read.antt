@@ -14,7 +14,6 @@ use Rattle.tables.specs.Rules.R1.{ceil}
 use Rattle.tables.specs.Views.{viewOf}
 use Rattle.files.specs.Moves.{fetched}
 use Rattle.requests.specs.declared.amount.Amount.{Amount}
-use Rattle.requests.specs.declared.amount.Amount.the-variants.{Below, Is}
 use Rattle.requests.specs.declared.answer.Answer.{Answer}
 use Rattle.requests.specs.Answers.{after, numberOf, answerOf}
 use Rattle.requests.specs.Body.{bodyTests}

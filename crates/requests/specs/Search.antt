@@ -60,6 +60,7 @@ searchTests b pattern = argumentTests b (PatternAllowed pattern)
 abbrev pub filledWith : List ℕ → List ℕ → List ℕ
 filledWith lent ids = over lent 0 (take (length lent) ids)
 
+-- search's promise
 pub record Searched (b pattern ids : List ℕ) (r : Answer) (ids' : List ℕ) : Type 0 where
   pub number : Gate (searchTests b pattern) (numberOf r)
   pub answer : r ≡ answerOf (numberOf r) (length (found b pattern))

@@ -3,7 +3,6 @@
 use mathlib.Core.Path.{_≡_}
 use mathlib.Core.List.{List, [], _∷_, _++_}
 use Prim.Native.Nat.{ℕ, zero, suc}
-use lib.ListN.{take, drop}
 use Rattle.tables.specs.Gates.{Test, asks, Gate}
 use Rattle.files.specs.Moves.{bodyPlace, sectorBytes}
 use Rattle.requests.specs.declared.show.Part.{Part}
@@ -20,6 +19,7 @@ abbrev pub partOf : ℕ → ℕ → Part
 partOf zero s = record { at = bodyPlace s; len = 1024 }
 partOf (suc k) s = record { at = 0; len = 0 }
 
+-- the promise of the place
 pub record ShownAt (b body : List ℕ) (id k : ℕ) (r : Part) : Type 0 where
   pub number : ℕ
   pub gate : Gate (showTests b body id k) number

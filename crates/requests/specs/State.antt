@@ -57,6 +57,7 @@ protected p b f w date = putAttribute p b f (protectionOf (attributeOf (tableAt 
 unfoldable pub removeTests : List ℕ → ℕ → List ℕ → List Test
 removeTests b id date = argumentTests b (Date date) ++ usableTests 4 b id
 
+-- temporary delete's promise
 pub record Removed (b : List ℕ) (id : ℕ) (date : List ℕ) (r : ℕ) (b' : List ℕ) : Type 0 where
   pub number : Gate (removeTests b id date) r
   pub books : b' ≡ after r (removed (placesOf b) b id date) b
@@ -69,6 +70,7 @@ removedTests b id = asks 8 (Parent (viewOf (placesOf b) b) id) ∷ asks 9 (delet
 unfoldable pub recoverTests : List ℕ → ℕ → List ℕ → List Test
 recoverTests b id date = argumentTests b (Date date) ++ removedTests b id
 
+-- recover's promise
 pub record Recovered (b : List ℕ) (id : ℕ) (date : List ℕ) (r : ℕ) (b' : List ℕ) : Type 0 where
   pub number : Gate (recoverTests b id date) r
   pub books : b' ≡ after r (recovered (placesOf b) b id date) b
@@ -83,6 +85,7 @@ pub record ProtectAllowed (w : ℕ) (date : List ℕ) : Type 0 where
 unfoldable pub protectTests : List ℕ → ℕ → ℕ → List ℕ → List Test
 protectTests b id w date = argumentTests b (ProtectAllowed w date) ++ namedTests b id
 
+-- set protection's promise
 pub record Protected (b : List ℕ) (id w : ℕ) (date : List ℕ) (r : ℕ) (b' : List ℕ) : Type 0 where
   pub number : Gate (protectTests b id w date) r
   pub books : b' ≡ after r (protected (placesOf b) b id w date) b

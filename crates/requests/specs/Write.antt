@@ -4,7 +4,7 @@
 use mathlib.Core.Path.{_≡_}
 use mathlib.Core.Logic.{_≢_}
 use mathlib.Core.Bool.{Bool, cond}
-use mathlib.Core.List.{List, [], _∷_, _++_}
+use mathlib.Core.List.{List, _∷_, _++_}
 use Prim.Native.Nat.{ℕ, _+_, _-_, _*_, _/_, _%_, _≤_, _<_}
 use lib.Dec.{eqb}
 use lib.ListN.{length}
@@ -28,6 +28,7 @@ use Rattle.requests.specs.State.{putAttribute}
 
 -- ---- the numbers
 
+-- what write asks of its arguments: what read asks, and a date
 pub record WriteAllowed (position long : Amount) (room : ℕ) (date : List ℕ) : Type 0 where
   pub move : MoveAllowed position long room
   pub date' : Date date
@@ -37,7 +38,7 @@ pub record Within (b : List ℕ) (id at n : ℕ) : Type 0 where
   pub position : at ≤ endOf b id
   pub fixed : variableBit (attributeOf (fileBytes b id)) ≡ 0 → at + n ≤ endOf b id
 
--- the byte length that is asked for: a variable file's, unless no byte is written
+-- the byte length that is asked for: position plus length of a variable file, 0 for a fixed file and where no byte is written
 unfoldable pub askedLength : List ℕ → ℕ → ℕ → ℕ → ℕ
 askedLength b id at n = cond (eqb n 0) 0 (cond (eqb (variableBit (attributeOf (fileBytes b id))) 1) (at + n) 0)
 
@@ -58,7 +59,7 @@ writeTests b body id position long room date =
 unfoldable pub settled : ℕ → ℕ
 settled a = a - a / 2 % 2 * 2
 
--- a file with its growth has the attribute settled, and the date
+-- the file, once it has grown, with weight 2 cleared and the date stored
 unfoldable pub settle : List ℕ → ℕ → List ℕ → List ℕ
 unfolding settled putAttribute
 settle b id date = putAttribute (placesOf b) b id (settled (attributeOf (fileBytes b id))) date

@@ -16,7 +16,6 @@ ghost use lib.ListN.{length};
 ghost use Rattle.field.specs.Says.{Says};
 ghost use Rattle.tables.specs.Gates.{Gate};
 ghost use Rattle.tables.specs.Books.{Good};
-ghost use Rattle.tables.specs.Places.{placesOf};
 ghost use Rattle.tables.specs.Views.{viewOf, Parent};
 ghost use Rattle.requests.specs.declared.amount.Amount.the-variants.{Is};
 ghost use Rattle.requests.specs.Read.{wholeSectors, endOf, MoveAllowed, readTests, readAmount, ReadOut};

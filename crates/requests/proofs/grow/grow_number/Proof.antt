@@ -1,5 +1,5 @@
-use Rattle.requests.proofs.CreateLaws.{argument-room}
-use Rattle.requests.proofs.GrowLaws.{grow-stops, grow-goes, grow-good}
+use Rattle.requests.proofs.CreateLaws.{argued-good, argument-room}
+use Rattle.requests.proofs.GrowLaws.{grow-stops, grow-goes}
 use borrow.Author.Needs.{needs}
 use Rattle.requests.proofs.grow.grow_number.Statement.{statement}
 use Rattle.requests.proofs.grow.grow_number.Tie as tie
@@ -13,5 +13,5 @@ grow-number-spec =
     (λ c. search grow-stops)
     (λ c κs. search argument-room)
     (λ c κs. search needs)
-    (λ c κs. search grow-good)
+    (λ c κs. search argued-good)
     (λ c. search grow-goes))

@@ -1,5 +1,4 @@
-use Rattle.requests.proofs.CreateLaws.{argument-room}
-use Rattle.requests.proofs.StateLaws.{argued-good}
+use Rattle.requests.proofs.CreateLaws.{argument-room, argued-good}
 use Rattle.requests.proofs.ReadLaws.{body-parent, read-stops, read-unusable, read-past, read-fine}
 use borrow.Author.Needs.{needs}
 use Rattle.requests.proofs.read.read_number.Statement.{statement}

@@ -1,5 +1,5 @@
-use Rattle.requests.proofs.StateLaws.{recover-stops, argued-good, recover-goes}
-use Rattle.requests.proofs.CreateLaws.{argument-room}
+use Rattle.requests.proofs.StateLaws.{recover-stops, recover-goes}
+use Rattle.requests.proofs.CreateLaws.{argument-room, argued-good}
 use borrow.Author.Needs.{needs}
 use Rattle.requests.proofs.recover.recover_number.Statement.{statement}
 use Rattle.requests.proofs.recover.recover_number.Tie as tie

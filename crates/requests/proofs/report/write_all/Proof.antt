@@ -1,7 +1,4 @@
-use mathlib.Core.Path.{_≡_}
-use Prim.Native.Nat.{ℕ, _+_, _≤_}
 use native.Mathlib.Omega.{arith}
-use lib.ListN.{length}
 use Rattle.requests.specs.Report.{linesOf, sizeLines, fileLines, stateLines}
 use Rattle.requests.proofs.TextLaws.{first-of-three, second-of-three, third-of-three, put-three}
 use borrow.Author.Needs.{needs}

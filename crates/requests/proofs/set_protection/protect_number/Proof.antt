@@ -1,5 +1,5 @@
-use Rattle.requests.proofs.StateLaws.{protect-stops, argued-good, protect-goes}
-use Rattle.requests.proofs.CreateLaws.{argument-room}
+use Rattle.requests.proofs.StateLaws.{protect-stops, protect-goes}
+use Rattle.requests.proofs.CreateLaws.{argument-room, argued-good}
 use borrow.Author.Needs.{needs}
 use Rattle.requests.proofs.set_protection.protect_number.Statement.{statement}
 use Rattle.requests.proofs.set_protection.protect_number.Tie as tie

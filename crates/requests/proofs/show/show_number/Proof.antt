@@ -1,5 +1,6 @@
 use Rattle.requests.specs.Show.{showTests}
-use Rattle.requests.proofs.LocateLaws.{use-good, use-room, use-layout, sector-stops, sector-refused, sector-past, sector-fine}
+use Rattle.requests.proofs.MountLaws.{use-good, use-room, use-layout}
+use Rattle.requests.proofs.LocateLaws.{sector-stops, sector-refused, sector-past, sector-fine}
 use native.Mathlib.Omega.{arith}
 use borrow.Author.Needs.{needs}
 use Rattle.requests.proofs.show.show_number.Statement.{statement}

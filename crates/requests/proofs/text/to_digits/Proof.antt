@@ -1,7 +1,6 @@
 use mathlib.Core.Path.{refl}
 use Rattle.requests.proofs.TextLaws.{Written, written-none, room-left, written-more, written-end}
 use native.Mathlib.Omega.{arith}
-use Prim.Native.Nat.{ℕ}
 use borrow.Author.Needs.{needs}
 use Rattle.requests.proofs.text.to_digits.Statement.{statement}
 use Rattle.requests.proofs.text.to_digits.Tie as tie

@@ -1,0 +1,30 @@
+-- A file's blocks leave the flag. Assumes nothing.
+use mathlib.Core.Path.{_≡_, refl, _∙_}
+use mathlib.Core.List.{List, [], _∷_}
+use Prim.Native.Nat.{ℕ}
+use native.Mathlib.Decide.{ℕ-discrete}
+use Rattle.tables.specs.declared.places.Places.{Places}
+use Rattle.tables.specs.Sector1.{flagOf}
+use Rattle.tables.specs.Views.{viewOf}
+use Rattle.allocation.specs.declared.growth.Cursor.{Cursor}
+use Rattle.allocation.specs.declared.tail.Tail.{Tail}
+use Rattle.allocation.specs.Choice.{inTurn, nextBlock}
+use Rattle.allocation.specs.Growth.{Growth, pointed, addBlock}
+use Rattle.allocation.specs.Ready.{Ready}
+use Rattle.allocation.proofs.ReadyLaws.{Taking, add-is, laid-is, here-is, further-is, pointed-here, pointed-further, here-written, further-extended, ready-proper, step-taking, ready-step}
+use Rattle.allocation.proofs.TakenLaws.{block-files}
+use Rattle.allocation.proofs.TurnLaws.{turn-none, turn-step}
+
+flag-pointed : (p : Places) (f : ℕ) (b : List ℕ) (c : Cursor) (l : Tail) (ts : List ℕ) → Taking p f b c l ts → flagOf (pointed p f b c l .books) ≡ flagOf b
+flag-pointed p f b c l ts h = elim (ℕ-discrete (l .tables) (c .tail .tables)) [
+  | yes e ↦ rw (pointed-here p f b c l e, here-is p f b c l) (here-written p f b c l ts h .counts .flag)
+  | no ne ↦ rw (pointed-further p f b c l ne, further-is p f b c l) (further-extended p f b c l ts h ne .counts .flag)
+]
+
+pub flag-turn : (p : Places) (f : ℕ) (g : Growth) (ts : List ℕ) → Ready p f g ts → flagOf (inTurn (addBlock p f) ts g .books) ≡ flagOf (g .books)
+flag-turn p f g [] h = rw (turn-none (addBlock p f) g) refl
+flag-turn p f g (t ∷ ts) h =
+    let k = nextBlock (viewOf p (g .books)) t in
+    let add : flagOf (addBlock p f t g .books) ≡ flagOf (g .books) = rw (add-is p f t g, laid-is p f t k g)
+    (flag-pointed p f _ (g .cursor) _ ts (step-taking p f g t ts h) ∙ block-files p (g .books) t k (h .layout) (ready-proper p f g t ts h) .counts .flag) in
+    rw (turn-step (addBlock p f) t ts g) (flag-turn p f (addBlock p f t g) ts (ready-step p f g t ts h) ∙ add)

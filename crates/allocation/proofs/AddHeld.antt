@@ -2,16 +2,14 @@
 use mathlib.Core.Path.{_≡_, refl, sym, ap, ap₂, _∙_}
 use mathlib.Core.Logic.{_≢_}
 use mathlib.Core.List.{List, [], _∷_}
-use Prim.Native.Nat.{ℕ, _+_, _-_, _*_, _≤_, _<_}
-use native.Mathlib.Decide.{ℕ-discrete, decLt}
+use Prim.Native.Nat.{ℕ, _+_, _-_, _≤_, _<_}
+use native.Mathlib.Decide.{decLt}
 use native.Mathlib.Omega.{arith}
 use lib.ListN.{length, getD}
 use Rattle.field.proofs.BitLaws.{bitAt-lt}
-use Rattle.tables.specs.declared.index.Pointer.{Pointer}
 use Rattle.tables.specs.declared.places.Places.{Places}
 use Rattle.tables.specs.Kinds.{zoneOf}
 use Rattle.tables.specs.Blocks.{blockOf}
-use Rattle.tables.specs.Indexes.{baseOf, startOf, countOf}
 use Rattle.tables.specs.Places.{Layout}
 use Rattle.tables.specs.Sector1.{firstFreeOf}
 use Rattle.tables.specs.Views.{View, viewOf, cov}
@@ -37,6 +35,7 @@ use Rattle.allocation.proofs.TakenLaws.{length-putBlock, block-files, b
 use Rattle.allocation.proofs.TakenHeld.{new-run, taken-held, taken-ends, taken-types, files-sectors}
 use Rattle.allocation.proofs.StepLaws.{Calm, pointer-still, child-popped}
 use Rattle.allocation.proofs.ChangeLaws.{Longer}
+use Rattle.allocation.proofs.EndsLaws.{end-some, last-start, last-count}
 use Rattle.allocation.proofs.WrittenHeld.{joined-held, beside-held}
 use Rattle.allocation.proofs.ExtendedHeld.{extended-held}
 use Rattle.allocation.proofs.HeldLawful.{quiet-trans, calm-quiet}
@@ -143,21 +142,12 @@ module _ (p : Places) (f t : ℕ) (ts : List ℕ) (g : Growth) (ready : Ready p 
       (calm-quiet (pointer-still p b (c .table .0) (l .at) (longer l n .last) block-layout (ready .low) (ready .high) (omega (arith, ready .at)) .calm)))
     where
       some : 1 ≤ block-ends .slot
-      some = elim (ℕ-discrete (block-ends .slot) 0) [ yes z ↦ absurd (omega (arith, block-ends .none z, block-run .low)) | no ne ↦ omega arith ]
-
-      place : baseOf (c .table .0) (v .table (c .table .0)) + 6 * (block-ends .slot - 1) ≡ l .at
-      place = omega (arith, block-ends .place, some)
-
-      start : startOf (c .table .0) (v .table (c .table .0)) (block-ends .slot - 1) ≡ l .last .start .0
-      start = rw place (sym (ap (λ (q : Pointer). q .start .0) (block-ends .pointer some)))
-
-      count : countOf (c .table .0) (v .table (c .table .0)) (block-ends .slot - 1) ≡ l .last .count
-      count = rw place (sym (ap (λ (q : Pointer). q .count) (block-ends .pointer some)))
+      some = end-some v f c block-ends (omega (arith, block-run .low))
 
       old : Run v (l .last .start .0) (l .last .count)
       old =
           let shape = block-held .r6 (c .table .0) (omega (arith, ready .high)) (ready .low) in
-          rw (start, count) at (shape .used (block-ends .slot - 1) (omega (arith, block-ends .within, some)) (block-ends .used (block-ends .slot - 1) (omega (arith, some))))
+          rw (last-start v f c block-ends some, last-count v f c block-ends some) at (shape .used (block-ends .slot - 1) (omega (arith, block-ends .within, some)) (block-ends .used (block-ends .slot - 1) (omega (arith, some))))
 
   -- in a pointer of its own beside it
   stood : l .at + 12 ≤ 124 → Taking p f b c (beside l s n) ts → Lengthened p f g (pointed p f b c (beside l s n)) (t ∷ [])

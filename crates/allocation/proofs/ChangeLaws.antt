@@ -22,8 +22,8 @@ use Rattle.tables.specs.Same.{Ground}
 use Rattle.tables.specs.Views.{View, Begins, Free, Parent, Child, walk, next, onlyIf, tally, cov, overOf, pointersOver, Under}
 use Rattle.tables.specs.Rules.R4.{R4}
 use Rattle.tables.specs.Rules.R5.{Full, FileChain, Stands, R5}
-use Rattle.tables.specs.Rules.R6.{Run}
-use Rattle.tables.specs.Rules.R8.{fileSectors, fileType, OneType, File, FileLaw}
+use Rattle.tables.specs.Rules.R6.{Run, R6}
+use Rattle.tables.specs.Rules.R8.{fileSectors, File, FileLaw}
 use Rattle.tables.specs.Rules.R9.{freeOne, activeOne, deletedOne, systemOne, directoryOne, R9}
 use Rattle.tables.proofs.ChainLaws.{walk-same, walk-none}
 use Rattle.tables.proofs.IndexLaws.{slots-free, slots-parent, slots-in, file-free, file-parent, file-child}
@@ -32,6 +32,7 @@ use Rattle.allocation.specs.declared.growth.Cursor.{Cursor}
 use Rattle.allocation.specs.Steps.{SameCounts}
 use Rattle.allocation.specs.Held.{Shapely, Held, Ends, InType}
 use Rattle.allocation.proofs.ChainedLaws.{FreeBut, tally-part, free-but, kept-R4, popped-R4}
+use Rattle.allocation.proofs.FileSame.{file-same}
 use Rattle.allocation.proofs.PointerBytes.{word-kept, parent-kept, slots-kept, file-kept, start-kept, count-kept}
 
 -- table x was of file f or free, and is of file f; the file's other tables keep all but their links, and all others all
@@ -72,6 +73,12 @@ parent-slots v i h = slots-parent i (v .table i) (λ z. omega (arith, h .low, h 
 
 pub first-under : (v : View) (i : ℕ) → Parent v i → Run v (startOf i (v .table i) 0) (countOf i (v .table i) 0) → Under v i 0 (startOf i (v .table i) 0)
 first-under v i h run = record { low = h .low; high = h .high; slot = omega (arith, parent-slots v i h); from = omega arith; to = omega (arith, run .some) }
+
+-- R6: a parent has a first pointer
+pub parent-under : (v : View) → R6 v → (p : ℕ) → Parent v p → Under v p 0 (startOf p (v .table p) 0)
+parent-under v r6 p par =
+    let shape = r6 p (omega (arith, par .high)) (par .low) in
+    first-under v p par (shape .used 0 (omega (arith, parent-slots v p par)) (shape .one (par .word)))
 
 -- R6 as a growing file f keeps it: what lies under a pointer is a run, and another file's parent has a first one
 module _ (v : View) (f : ℕ) (r6 : Each (λ i. Shapely v f i (v .table i)) 1 (v .indexes + 1)) where
@@ -114,15 +121,19 @@ sum-first n f l h = omega (arith, sum-at n 0 f (λ k. 0) l (λ k lk ne. h k lk (
 pub ground-zone : (v v' : View) → Ground v v' → (s : ℕ) → s < 1024 * (v .zones - 1) → v' .zone (zoneOf s) ≡ v .zone (zoneOf s)
 ground-zone v v' g s l = g .zone (zoneOf s) (omega arith) (omega arith)
 
-pub ground-run : (v v' : View) → Ground v v' → (a c : ℕ) → Run v a c → Run v' a c
-ground-run v v' g a c r = record {
+-- where zone entries stay, runs do
+pub run-zones : (v v' : View) → v' .zones ≡ v .zones → ((z : ℕ) → 1 ≤ z → z ≤ v .zones → v' .zone z ≡ v .zone z) → (a c : ℕ) → Run v a c → Run v' a c
+run-zones v v' zones zone a c r = record {
   some = r .some;
   few = r .few;
   low = r .low;
-  high = rw (g .zones) (r .high);
-  typed = λ s h l. rw (ground-zone v v' g s (omega (arith, r .high))) (r .typed s h l);
-  whole = λ z l lo. (let l' : z < v .zones = rw (g .zones) at l in rw (g .zone z (omega arith) (omega arith)) (r .whole z l' lo));
+  high = rw zones (r .high);
+  typed = λ s h l. rw (zone (zoneOf s) (omega arith) (omega (arith, r .high))) (r .typed s h l);
+  whole = λ z l lo. (let l' : z < v .zones = rw zones at l in rw (zone z (omega arith) (omega arith)) (r .whole z l' lo));
 }
+
+pub ground-run : (v v' : View) → Ground v v' → (a c : ℕ) → Run v a c → Run v' a c
+ground-run v v' g = run-zones v v' (g .zones) (g .zone)
 
 -- index j keeps what the chains see of it
 pub record Stays (v v' : View) (j : ℕ) : Type 0 where
@@ -359,29 +370,14 @@ module _ (v v' : View) (f x : ℕ) (h : Changed v v' f x) where
         same : v' .table p ≡ v .table p
         same = other-table p p (par .low) (par .high) lp ne (parent-file v p par)
 
-        file-type : fileType v' p ≡ fileType v p
-        unfolding fileType
-        file-type =
-            ap (λ (t : List ℕ). v' .zone (zoneOf (startOf p t 0)) .ztype) same ∙ ap (λ (e : ZoneEntry). e .ztype) (under-zone p 0 _ (other-under v f r6 p par ne))
-
-        file-one : OneType v p → OneType v' p
-        file-one o i j s e u =
-            let hi : i ≤ v .indexes = rw (h .indexes) at (u .high) in
-            let w = under-was i j s (λ q. ne (sym e ∙ ap (λ (n : ℕ). fileOf n (v' .table n)) q ∙ h .now)) u in
-            rw (under-zone i j s w, file-type) (o i j s (other-was i p (u .low) hi ne e) w)
-
         other-file : File v p (v .table p) → File v' p (v' .table p)
-        other-file o = rw same (record {
-          name = o .name;
-          least = o .least;
-          most = rw file-sectors (o .most);
-          fixed = o .fixed;
-          variable = λ e. file-one (o .variable e);
-          weights = o .weights;
-          both = o .both;
-          created = o .created;
-          changed = o .changed;
-        })
+        other-file = file-same v v' (λ i j s u. ap (λ (e : ZoneEntry). e .ztype) (under-zone i j s u)) p (other-under v f r6 p par ne) same under file-sectors
+          where
+            under : (i j s : ℕ) → fileOf i (v' .table i) ≡ p → Under v' i j s → (fileOf i (v .table i) ≡ p) × Under v i j s
+            under i j s e u = (
+              other-was i p (u .low) (rw (h .indexes) at (u .high)) ne e,
+              under-was i j s (λ q. ne (sym e ∙ ap (λ (n : ℕ). fileOf n (v' .table n)) q ∙ h .now)) u,
+            )
 
     pub changed-R8 : ((p : ℕ) → p < v .indexes + 1 → 1 ≤ p → p ≢ f → FileLaw v p) → (p : ℕ) → p < v' .indexes + 1 → 1 ≤ p → p ≢ f → FileLaw v' p
     changed-R8 r p l lo ne w =

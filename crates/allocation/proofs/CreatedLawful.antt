@@ -1,20 +1,13 @@
 -- A new file with its blocks: the books meet the nine rules again. Assumes nothing.
-use mathlib.Core.Path.{_≡_, refl, sym, _∙_}
-use mathlib.Core.Logic.{inl, inr}
+use mathlib.Core.Path.{_≡_, refl}
 use mathlib.Core.List.{List, [], _∷_}
-use Prim.Native.Nat.{ℕ, _+_, _≤_, _<_}
-use native.Mathlib.Decide.{decLt}
+use Prim.Native.Nat.{ℕ, _≤_}
 use native.Mathlib.Omega.{arith}
-use lib.ListN.{getD, length, replicate, length-replicate, List·getD-eq-default}
-use Rattle.field.specs.Numbers.{putU16, putU32}
-use Rattle.field.specs.Kept.{Kept}
-use Rattle.field.specs.Parts.{over}
-use Rattle.field.proofs.NumberLaws.{u32-kept, kept-putU16, kept-putU32, u32-put-same, getD-zeros}
-use Rattle.field.proofs.PartLaws.{kept-over, over-part, same-at}
+use lib.ListN.{length, List·getD-eq-default}
 use Rattle.tables.specs.declared.places.Places.{Places}
 use Rattle.tables.specs.Names.{Name, NewName}
 use Rattle.tables.specs.Places.{Layout}
-use Rattle.tables.specs.Indexes.{tableAt, lengthOf, Used}
+use Rattle.tables.specs.Indexes.{tableAt, Used}
 use Rattle.tables.specs.Sector1.{firstFreeOf}
 use Rattle.tables.specs.Views.{View, viewOf}
 use Rattle.tables.specs.Rules.R8.{systemBit, directoryBit, fileSectors, FileLaw}
@@ -34,7 +27,7 @@ use Rattle.allocation.specs.NewLawful.{NewLawful}
 use Rattle.allocation.specs.Files.{Provided, started, created}
 use Rattle.allocation.proofs.OrderLaws.{order-typed}
 use Rattle.allocation.proofs.FileLaws.{provided-head, started-made}
-use Rattle.allocation.proofs.PointerBytes.{parent-length, parent-attribute}
+use Rattle.allocation.proofs.PointerBytes.{parent-length, parent-name, parent-created, parent-changed, parent-long, parent-attribute}
 use Rattle.allocation.proofs.StepLaws.{parent-popped, file-counted}
 use Rattle.allocation.proofs.MadeHeld.{Begun, made-held}
 use Rattle.allocation.proofs.HeldLawful.{held-rules, quiet-R1, quiet-trans, calm-quiet, ends-used, in-one, Fields, fields-front, fields-file}
@@ -52,61 +45,13 @@ new-name n h = record {
 }
 
 module _ (x : ℕ) (n : New) (name : length (n .name) ≤ 24) (date : length (n .date) ≡ 6) where
-  module _ (a b c d e f : List ℕ) (ea : a ≡ putU32 (replicate 128 0) 0 x) (eb : b ≡ over a 4 (n .name)) (ec : c ≡ over b 28 (n .date)) (ed : d ≡ over c 34 (n .date))
-      (ee : e ≡ putU32 d 40 (n .length)) (ef : f ≡ putU16 e 44 (n .attribute)) where
-    id-kept : Kept (replicate 128 0) a 0 4
-    id-kept = rw ea (kept-putU32 (replicate 128 0) 0 x)
-
-    size-a : length a ≡ 128
-    size-a = id-kept .len ∙ length-replicate {A = ℕ} 128 0
-
-    name-kept : Kept a b 4 (length (n .name))
-    name-kept = rw eb (kept-over a 4 (n .name) (omega (arith, size-a)))
-
-    created-kept : Kept b c 28 6
-    created-kept = rw (date, ← ec) at (kept-over b 28 (n .date) (omega (arith, size-a, name-kept .len)))
-
-    changed-kept : Kept c d 34 6
-    changed-kept = rw (date, ← ed) at (kept-over c 34 (n .date) (omega (arith, size-a, name-kept .len, created-kept .len)))
-
-    long-kept : Kept d e 40 4
-    long-kept = rw ee (kept-putU32 d 40 (n .length))
-
-    attribute-kept : Kept e f 44 2
-    attribute-kept = rw ef (kept-putU16 e 44 (n .attribute))
-
-    -- what is written from byte 40 on leaves what stands before it
-    before : (o : ℕ) → o < 40 → getD f o 0 ≡ getD d o 0
-    before o l = attribute-kept .out o (inl (omega arith)) ∙ long-kept .out o (inl (omega arith))
-
-    named : (k : ℕ) → k < 24 → getD f (4 + k) 0 ≡ getD (n .name) k 0
-    named k l =
-        before (4 + k) (omega arith) ∙ changed-kept .out (4 + k) (inl (omega arith)) ∙ created-kept .out (4 + k) (inl (omega arith)) ∙
-        elim (decLt k (length (n .name))) [
-          | yes h ↦ rw eb (same-at (over a 4 (n .name)) (n .name) 4 (over-part a 4 (n .name) (omega (arith, size-a))) k h)
-          | no h ↦ name-kept .out (4 + k) (inr (omega arith)) ∙ id-kept .out (4 + k) (inr (omega arith)) ∙ getD-zeros 128 (4 + k) ∙ sym (List·getD-eq-default (n .name) 0 (omega arith))
-        ]
-
-    first-date : (k : ℕ) → k < 6 → getD f (28 + k) 0 ≡ getD (n .date) k 0
-    first-date k l =
-        before (28 + k) (omega arith) ∙ changed-kept .out (28 + k) (inl (omega arith))
-        ∙ rw ec (same-at (over b 28 (n .date)) (n .date) 28 (over-part b 28 (n .date) (omega (arith, size-a, name-kept .len))) k (omega arith))
-
-    second-date : (k : ℕ) → k < 6 → getD f (34 + k) 0 ≡ getD (n .date) k 0
-    second-date k l =
-        before (34 + k) (omega arith)
-        ∙ rw ed (same-at (over c 34 (n .date)) (n .date) 34 (over-part c 34 (n .date) (omega (arith, size-a, name-kept .len, created-kept .len))) k (omega arith))
-
-    long : lengthOf f ≡ n .length
-    long = u32-kept 40 attribute-kept (inl (omega arith)) ∙ rw ee (u32-put-same d 40 (n .length) (omega (arith, size-a, name-kept .len, created-kept .len, changed-kept .len)))
-
   parent-fields : Fields (parentBytes x n) (n .name) (n .date) (n .date) (n .length) (n .attribute)
   parent-fields = record {
     size = parent-length x n name date;
-    name' = named _ _ _ _ _ _ refl refl refl refl refl refl;
-    created' = first-date _ _ _ _ _ _ refl refl refl refl refl refl;
-    changed' = second-date _ _ _ _ _ _ refl refl refl refl refl refl;
-    long' = long _ _ _ _ _ _ refl refl refl refl refl refl;
+    name' = parent-name x n name date;
+    created' = parent-created x n name date;
+    changed' = parent-changed x n name date;
+    long' = parent-long x n name date;
     attribute' = parent-attribute x n name date;
   }
 

@@ -28,8 +28,9 @@ use Rattle.allocation.specs.Steps.{withPointer, childBytes, Extended}
 use Rattle.allocation.specs.Held.{Shapely, Held, Ends}
 use Rattle.allocation.proofs.PointerBytes.{word-kept, parent-kept, kept-pointer, pointer-start, pointer-count, pointer-read, child-length, child-word, child-parent, child-zero32, child-zero16}
 use Rattle.allocation.proofs.ChainedLaws.{head-free}
-use Rattle.allocation.proofs.ChangeLaws.{Changed, Longer, member-begins, member-file, free-file, used-not, over-free, sum-first, ground-zone, ground-run, full-there, parent-there, begins-there, begins-was, pop-R4, changed-R5, changed-R6, pointers-at, sectors-at, changed-types, changed-R8, free-less, changed-R9}
-use Rattle.allocation.proofs.WrittenHeld.{slots-end}
+use Rattle.allocation.proofs.ChangeLaws.{Changed, Longer, member-begins, free-file, used-not, over-free, sum-first, ground-zone, ground-run, full-there, parent-there, begins-there, begins-was, pop-R4, changed-R5, changed-R6, pointers-at, sectors-at, changed-types, changed-R8, free-less, changed-R9}
+use Rattle.allocation.proofs.LastLaws.{slots-end}
+use Rattle.allocation.proofs.EndsLaws.{end-begins, end-file}
 
 -- ---- the new child's bytes
 
@@ -94,10 +95,10 @@ module _ (v v' : View) (f : ℕ) (q : Pointer) (c : Cursor) (w : Extended v v' f
   small = omega (arith, free .high)
 
   i-begins : (u : ℕ) × Begins v i u × (u ≢ 0)
-  i-begins = rw (e .table) at (member-begins v few f (e .long) (e .parent) (e .chain) (e .long) (omega arith))
+  i-begins = end-begins v few f c e
 
   i-file : fileOf i (v .table i) ≡ f
-  i-file = rw (e .table) at (member-file v few f (e .long) (e .parent) (e .chain) (e .long) (omega arith))
+  i-file = end-file v few f c e
 
   i-not : i ≢ x
   i-not = used-not v i x _ free (i-begins .1) (i-begins .2)

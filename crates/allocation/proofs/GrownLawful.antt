@@ -41,9 +41,8 @@ use Rattle.allocation.specs.Growth.{Growth, addBlock}
 use Rattle.allocation.specs.Ready.{Ready}
 use Rattle.allocation.specs.Lengthened.{sectorsIn, AllOf, Quiet, Lengthened}
 use Rattle.allocation.specs.Files.{Provided, blocksFor, putLength, grown}
--- passed on to users of this file: what is known of a file's last table and of the used pointers there
-pub use Rattle.allocation.proofs.LastLaws.{file-short, last-table, used-le, used-before, used-not, used-some}
-use Rattle.allocation.proofs.LastLaws.{base-low, last-shape, last-some}
+use Rattle.allocation.proofs.LastLaws.{last-table, used-le, used-before, used-not, base-low, last-shape, last-some}
+use Rattle.allocation.proofs.FileLaws.{ready-grow}
 use Rattle.allocation.proofs.MadeHeld.{lawful-held}
 use Rattle.allocation.proofs.HeldLawful.{held-rules, quiet-R1, calm-quiet, quiet-trans, ends-used, in-one, file-typed, some-sectors, Fields, table-fields, fields-front, fields-file}
 use Rattle.allocation.proofs.AddHeld.{adds-held}
@@ -80,8 +79,8 @@ module _ (p : Places) (b : List ℕ) (f : ℕ) (h : Lawful p b) (parent : Parent
 -- ---- a file of lawful books
 
 module _ (p : Places) (b : List ℕ) (f : ℕ) (l : Lawful p b) where
-  was : Held (viewOf p b) f nothing
-  was = lawful-held (viewOf p b) f (l .r2) (l .r3) (l .r4) (l .r5) (l .r6) (l .r7) (l .r8) (l .r9)
+  pub rules-held : Held (viewOf p b) f nothing
+  rules-held = lawful-held (viewOf p b) f (l .r2) (l .r3) (l .r4) (l .r5) (l .r6) (l .r7) (l .r8) (l .r9)
 
   was-used : Parent (viewOf p b) f → Used f (tableAt p b f) 0
   was-used parent = l .r6 f (omega (arith, parent .high)) (parent .low) .one (parent .word)
@@ -89,7 +88,7 @@ module _ (p : Places) (b : List ℕ) (f : ℕ) (l : Lawful p b) where
 -- ---- its type, and how many blocks it lacks
 
 pub lawful-typed : (p : Places) (b : List ℕ) (f : ℕ) → Lawful p b → Parent (viewOf p b) f → Typed (fileType (viewOf p b) f)
-lawful-typed p b f l parent = file-typed (viewOf p b) f (was p b f l) parent (was-used p b f l parent)
+lawful-typed p b f l parent = file-typed (viewOf p b) f (rules-held p b f l) parent (was-used p b f l parent)
 
 pub blocks-enough : (v : View) (f long : ℕ) → Typed (fileType v f) → long ≤ 1024 * (fileSectors v f + blocksFor v f long * blockOf (fileType v f))
 unfolding blocksFor blockBytes
@@ -104,14 +103,14 @@ blocks-enough v f long typed =
 -- ---- the length and the dates
 
 -- of file f's parent only bytes 34 to 43, the change date and the byte length, are others
-record Resized (v v' : View) (f : ℕ) : Type 0 where
-  ground : Ground v v'
-  indexes : v' .indexes ≡ v .indexes
-  head : v' .head ≡ v .head
-  free : v' .free ≡ v .free
-  counts : SameCounts v v'
-  here : Kept (v .table f) (v' .table f) 34 10
-  there : (j : ℕ) → 1 ≤ j → j ≤ v .indexes → j ≢ f → v' .table j ≡ v .table j
+pub record Resized (v v' : View) (f : ℕ) : Type 0 where
+  pub ground : Ground v v'
+  pub indexes : v' .indexes ≡ v .indexes
+  pub head : v' .head ≡ v .head
+  pub free : v' .free ≡ v .free
+  pub counts : SameCounts v v'
+  pub here : Kept (v .table f) (v' .table f) 34 10
+  pub there : (j : ℕ) → 1 ≤ j → j ≤ v .indexes → j ≢ f → v' .table j ≡ v .table j
 
 module _ (v v' : View) (f : ℕ) (w : Resized v v' f) (few : v .indexes ≤ 4096) (parent : Parent v f) (h : Held v f nothing) where
   abbrev t : List ℕ
@@ -300,7 +299,7 @@ module _ (p : Places) (b : List ℕ) (f long : ℕ) (date : List ℕ) (lay : Lay
     z-quiet : Quiet p b z
     z-quiet = quiet-trans (calm-quiet (still .calm)) (record { len = z-kept .len; low = λ j l. z-kept .out j (inl (omega arith)); tails = λ s t. sector1-tails y z status p lay-y t })
 
-  length-resized : Resized (viewOf p b) (viewOf p (putLength p b f long date)) f
+  pub length-resized : Resized (viewOf p b) (viewOf p (putLength p b f long date)) f
   unfolding putLength
   length-resized = z-resized _ _ _ refl refl refl
 
@@ -315,76 +314,89 @@ module _ (p : Places) (b : List ℕ) (f long : ℕ) (date : List ℕ) (lay : Lay
 -- ---- a file that has grown
 
 module _ (p : Places) (b : List ℕ) (f : ℕ) (counts : List ℕ) (long : ℕ) (date : List ℕ) (lay : Layout p (length b)) (old : Lawful p b) (parent : Parent (viewOf p b) f)
-    (valid : Date date) where
-  was-file : File (viewOf p b) f (tableAt p b f)
-  was-file = old .r8 f (omega (arith, parent .high)) (parent .low) (parent .word)
+    (six : length date ≡ 6) (g : Growth) (h : Lengthened p f (record { books = b; cursor = cursorOf p b f }) g (inOrder counts)) where
+  abbrev a : List ℕ
+  a = g .books
 
-  module _ (g : Growth) (h : Lengthened p f (record { books = b; cursor = cursorOf p b f }) g (inOrder counts)) where
-    abbrev a : List ℕ
-    a = g .books
+  abbrev c : List ℕ
+  c = putLength p (g .books) f long date
 
-    abbrev c : List ℕ
-    c = putLength p (g .books) f long date
+  lay-a : Layout p (length a)
+  lay-a = rw (h .quiet .len) lay
 
-    lay-a : Layout p (length a)
-    lay-a = rw (h .quiet .len) lay
+  resized : Resized (viewOf p a) (viewOf p c) f
+  resized = length-resized p a f long date lay-a (parent .low) (parent .high) six
 
-    resized : Resized (viewOf p a) (viewOf p c) f
-    resized = length-resized p a f long date lay-a (parent .low) (parent .high) (valid .long)
+  quiet : Quiet p b c
+  quiet = quiet-trans (h .quiet) (length-quiet p a f long date lay-a (parent .low) (parent .high) six)
 
-    quiet : Quiet p b c
-    quiet = quiet-trans (h .quiet) (length-quiet p a f long date lay-a (parent .low) (parent .high) (valid .long))
+  now-parent : Parent (viewOf p c) f
+  now-parent = resized-parent (viewOf p a) (viewOf p c) f resized (lay .few) (h .ends .parent) (h .held)
 
-    held : Held (viewOf p c) f nothing
-    held = resized-held (viewOf p a) (viewOf p c) f resized (lay .few) (h .ends .parent) (h .held)
+  fields : Fields (tableAt p c f) (nameOf (tableAt p b f)) (createdOf (tableAt p b f)) date long (attributeOf (tableAt p b f))
+  fields =
+      let t = tableAt p b f in
+      let old = table-fields t (length-table p b f lay (parent .low) (parent .high)) in
+      rw (length-new p a f long date lay-a (parent .low) (parent .high) six) (new-fields p a f long date lay-a (parent .low) (parent .high) six
+      (fields-front {t = t} {changed = changedOf t} {long = lengthOf t} (length-table p a f lay-a (parent .low) (parent .high)) (h .front) old))
 
-    sectors : fileSectors (viewOf p c) f ≡ fileSectors (viewOf p b) f + sectorsIn (inOrder counts)
-    sectors = resized-sectors (viewOf p a) (viewOf p c) f resized (lay .few) (h .ends .parent) (h .held) ∙ h .sectors
+  held : Held (viewOf p c) f nothing
+  held = resized-held (viewOf p a) (viewOf p c) f resized (lay .few) (h .ends .parent) (h .held)
 
-    used : Used f (tableAt p c f) 0
-    used =
-        let some = some-sectors (viewOf p b) f (was p b f old) parent (was-used p b f old parent) in
-        resized-used (viewOf p a) (viewOf p c) f resized (lay .few) (h .ends .parent) (h .held)
-        (ends-used (viewOf p a) f (lay .few) (h .held .r5) (g .cursor) (h .ends) (h .held .r4 .own) (omega (arith, h .sectors, some)))
+  sectors : fileSectors (viewOf p c) f ≡ fileSectors (viewOf p b) f + sectorsIn (inOrder counts)
+  sectors = resized-sectors (viewOf p a) (viewOf p c) f resized (lay .few) (h .ends .parent) (h .held) ∙ h .sectors
 
-    now-parent : Parent (viewOf p c) f
-    now-parent = resized-parent (viewOf p a) (viewOf p c) f resized (lay .few) (h .ends .parent) (h .held)
+  used : Used f (tableAt p c f) 0
+  used =
+      let some = some-sectors (viewOf p b) f (rules-held p b f old) parent (was-used p b f old parent) in
+      resized-used (viewOf p a) (viewOf p c) f resized (lay .few) (h .ends .parent) (h .held)
+      (ends-used (viewOf p a) f (lay .few) (h .held .r5) (g .cursor) (h .ends) (h .held .r4 .own) (omega (arith, h .sectors, some)))
 
-    fields : Fields (tableAt p c f) (nameOf (tableAt p b f)) (createdOf (tableAt p b f)) date long (attributeOf (tableAt p b f))
-    fields =
-        let t = tableAt p b f in
-        let old = table-fields t (length-table p b f lay (parent .low) (parent .high)) in
-        rw (length-new p a f long date lay-a (parent .low) (parent .high) (valid .long)) (new-fields p a f long date lay-a (parent .low) (parent .high) (valid .long)
-        (fields-front {t = t} {changed = changedOf t} {long = lengthOf t} (length-table p a f lay-a (parent .low) (parent .high)) (h .front) old))
+  module _ (valid : Date date) (variable : variableBit (attributeOf (tableAt p b f)) ≡ 1) (all : AllOf (inOrder counts) (fileType (viewOf p b) f)) (least : long < 2147483648)
+      (most : long ≤ 1024 * (fileSectors (viewOf p b) f + sectorsIn (inOrder counts))) where
+    was-file : File (viewOf p b) f (tableAt p b f)
+    was-file = old .r8 f (omega (arith, parent .high)) (parent .low) (parent .word)
 
-    module _ (variable : variableBit (attributeOf (tableAt p b f)) ≡ 1) (all : AllOf (inOrder counts) (fileType (viewOf p b) f)) (least : long < 2147483648)
-        (most : long ≤ 1024 * (fileSectors (viewOf p b) f + sectorsIn (inOrder counts))) where
-      one : OneType (viewOf p c) f
-      one =
-          let t = fileType (viewOf p b) f in
-          in-one (viewOf p c) f held now-parent used t (resized-types (viewOf p a) (viewOf p c) f resized (lay .few) (h .ends .parent) (h .held) t
-          (h .types t all (was-file .variable variable)))
+    one : OneType (viewOf p c) f
+    one =
+        let t = fileType (viewOf p b) f in
+        in-one (viewOf p c) f held now-parent used t (resized-types (viewOf p a) (viewOf p c) f resized (lay .few) (h .ends .parent) (h .held) t
+        (h .types t all (was-file .variable variable)))
 
-      lawful : Lawful p c
-      lawful = held-rules p c f (quiet-R1 p b c quiet (old .r1)) held (λ q. used) (λ w.
-          fields-file (viewOf p c) f (tableAt p c f) (nameOf (tableAt p b f)) (createdOf (tableAt p b f)) date long (attributeOf (tableAt p b f)) fields
-          (was-file .name) (was-file .created) valid least (rw sectors most) (λ e. omega arith) (λ e. one) (was-file .weights) (was-file .both))
+    lawful : Lawful p c
+    lawful = held-rules p c f (quiet-R1 p b c quiet (old .r1)) held (λ q. used) (λ w.
+        fields-file (viewOf p c) f (tableAt p c f) (nameOf (tableAt p b f)) (createdOf (tableAt p b f)) date long (attributeOf (tableAt p b f)) fields
+        (was-file .name) (was-file .created) valid least (rw sectors most) (λ e. omega arith) (λ e. one) (was-file .weights) (was-file .both))
 
-grown-lengthened : (p : Places) (b : List ℕ) (f : ℕ) (counts : List ℕ) → Lawful p b → Parent (viewOf p b) f
-    → Ready p f (record { books = b; cursor = cursorOf p b f }) (inOrder counts)
-    → Lengthened p f (record { books = b; cursor = cursorOf p b f }) (inTurn (addBlock p f) (inOrder counts) (record { books = b; cursor = cursorOf p b f })) (inOrder counts)
-grown-lengthened p b f counts l parent ready = adds-held p f (inOrder counts) (record { books = b; cursor = cursorOf p b f }) ready (was p b f l) (cursor-ends p b f l parent)
+module _ (p : Places) (b : List ℕ) (f : ℕ) (counts : List ℕ) (has : Provided p b (cursorOf p b f .tail) counts) (parent : Parent (viewOf p b) f) where
+  abbrev begun : Growth
+  begun = record { books = b; cursor = cursorOf p b f }
+
+  pub grown-lengthened : Lengthened p f (record { books = b; cursor = cursorOf p b f }) (inTurn (addBlock p f) (inOrder counts) (record { books = b; cursor = cursorOf p b f })) (inOrder counts)
+  grown-lengthened = adds-held p f (inOrder counts) begun (ready-grow p b f counts has parent) (rules-held p b f (has .lawful)) (cursor-ends p b f (has .lawful) parent)
+
+  -- whatever the date's bytes are
+  module _ (long : ℕ) (date : List ℕ) (six : length date ≡ 6) where
+    pub grown-calm : Quiet p b (grown p b f counts long date)
+    unfolding grown
+    grown-calm = quiet p b f counts long date (has .layout) (has .lawful) parent six _ grown-lengthened
+
+    pub grown-parent : Parent (viewOf p (grown p b f counts long date)) f
+    unfolding grown
+    grown-parent = now-parent p b f counts long date (has .layout) (has .lawful) parent six _ grown-lengthened
+
+    pub grown-long : lengthOf (tableAt p (grown p b f counts long date) f) ≡ long
+    unfolding grown
+    grown-long = fields p b f counts long date (has .layout) (has .lawful) parent six _ grown-lengthened .long'
 
 pub grown-lawful : (p : Places) (b : List ℕ) (f : ℕ) (counts : List ℕ) (long : ℕ) (date : List ℕ) → Provided p b (cursorOf p b f .tail) counts → Parent (viewOf p b) f
     → variableBit (attributeOf (tableAt p b f)) ≡ 1 → AllOf (inOrder counts) (fileType (viewOf p b) f) → Date date → long < 2147483648
     → long ≤ 1024 * (fileSectors (viewOf p b) f + sectorsIn (inOrder counts)) → Ready p f (record { books = b; cursor = cursorOf p b f }) (inOrder counts)
     → Lawful p (grown p b f counts long date)
 unfolding grown
-grown-lawful p b f counts long date provided parent variable all valid least most ready =
-    lawful p b f counts long date (provided .layout) (provided .lawful) parent valid _ (grown-lengthened p b f counts (provided .lawful) parent ready) variable all least most
+grown-lawful p b f counts long date has parent variable all valid least most ready =
+    lawful p b f counts long date (has .layout) (has .lawful) parent (valid .long) _ (grown-lengthened p b f counts has parent) valid variable all least most
 
 pub grown-quiet : (p : Places) (b : List ℕ) (f : ℕ) (counts : List ℕ) (long : ℕ) (date : List ℕ) → Provided p b (cursorOf p b f .tail) counts → Parent (viewOf p b) f → Date date
     → Ready p f (record { books = b; cursor = cursorOf p b f }) (inOrder counts) → Quiet p b (grown p b f counts long date)
-unfolding grown
-grown-quiet p b f counts long date provided parent valid ready =
-    quiet p b f counts long date (provided .layout) (provided .lawful) parent valid _ (grown-lengthened p b f counts (provided .lawful) parent ready)
+grown-quiet p b f counts long date has parent valid ready = grown-calm p b f counts has parent long date (valid .long)

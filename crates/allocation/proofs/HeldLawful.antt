@@ -88,15 +88,15 @@ module _ (p : Places) (b b' : List ℕ) (q : Quiet p b b') where
   unfolding u32At
   low32 o l = rw (q .low o (omega arith), q .low (o + 1) (omega arith), q .low (o + 2) (omega arith), q .low (o + 3) (omega arith))
 
-  low-places : placesOf b' ≡ placesOf b
-  low-places = rw (low32 130 (omega arith), low32 1024 (omega arith), low32 138 (omega arith), low32 142 (omega arith), low32 146 (omega arith))
+  pub quiet-places : placesOf b' ≡ placesOf b
+  quiet-places = rw (low32 130 (omega arith), low32 1024 (omega arith), low32 138 (omega arith), low32 142 (omega arith), low32 146 (omega arith))
 
   pub quiet-R1 : R1 p b → R1 p b'
   quiet-R1 r = record { stand = rw (q .len) (r .stand); tails = q .tails (r .stand) (r .tails) }
 
 pub quiet-good : (b b' : List ℕ) (p : Places) → Good b p → Quiet p b b' → Lawful p b' → Good b' p
 quiet-good b b' p g q lawful = record {
-  places = g .places ∙ sym (low-places p b b' q);
+  places = g .places ∙ sym (quiet-places p b b' q);
   sized = record { whole = rw (q .len) (g .sized .whole); least = rw (q .len) (g .sized .least); most = rw (q .len) (g .sized .most) };
   marked = record { mark = low32 p b b' q 0 (omega arith) ∙ g .marked .mark; version = low32 p b b' q 4 (omega arith) ∙ g .marked .version };
   placed = record {
@@ -109,7 +109,7 @@ quiet-good b b' p g q lawful = record {
       sector = low16 p b b' q 136 (omega arith) ∙ l .sector;
       index = low16 p b b' q 150 (omega arith) ∙ l .index;
     });
-    stand = rw (low-places p b b' q, q .len) (g .placed .stand);
+    stand = rw (quiet-places p b b' q, q .len) (g .placed .stand);
   };
   layout = rw (q .len) (g .layout);
   lawful = lawful;

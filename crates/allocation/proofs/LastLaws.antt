@@ -1,25 +1,26 @@
 -- The end of a file's chain and of a table's pointers: step by step as the code comes to them, and that it is the end. Assumes nothing.
 use mathlib.Core.Path.{_≡_, refl, sym, ap, _∙_}
-use mathlib.Core.Logic.{_≢_, _⊎_, inl, inr, ⊎-elim}
+use mathlib.Core.Logic.{_≢_}
 use mathlib.Core.Bool.{Bool, true≢false}
 use mathlib.Core.List.{List}
 use Prim.Native.Nat.{ℕ, zero, suc, _+_, _-_, _*_, _≤_, _<_}
-use native.Mathlib.Nat.{not-suc-le-zero}
 use native.Mathlib.Decide.{ℕ-discrete}
 use native.Mathlib.Omega.{arith}
 use lib.Dec.{eqb}
 use borrow.Author.Tests.{eq-eqb, ne-eqb}
 use Rattle.field.specs.Numbers.{u16At, u32At}
-use Rattle.field.proofs.Sums.{sum-out, sum-one}
+use Rattle.field.specs.Sum.{sumTo}
+use Rattle.field.proofs.Sums.{sum-part, sum-zero, sum-one, sum-out}
 use Rattle.tables.specs.declared.places.Places.{Places}
 use Rattle.tables.specs.declared.index.Pointer.{Pointer}
 use Rattle.tables.specs.declared.kinds.Index.{Index}
 use Rattle.tables.specs.Indexes.{tableAt, wordOf, linkOf, slotsOf, baseOf, startOf, countOf, Used, pointerAt}
-use Rattle.tables.specs.Views.{View, viewOf, Begins, Parent, walk, next}
+use Rattle.tables.specs.Views.{View, viewOf, Begins, Parent, walk, next, onlyIf}
 use Rattle.tables.specs.Rules.R5.{R5, FileChain}
 use Rattle.tables.specs.Rules.R6.{Shape, R6}
 use Rattle.tables.proofs.ChainLaws.{walk-none, walk-once}
-use Rattle.tables.proofs.IndexLaws.{slots-in, slots-parent, base-parent, base-child}
+use Rattle.tables.proofs.CountLaws.{only-eq, only-ne}
+use Rattle.tables.proofs.IndexLaws.{slots-in, slots-parent, slots-child, base-parent, base-child}
 use Rattle.allocation.specs.declared.growth.Cursor.{Cursor}
 use Rattle.allocation.specs.Search.{find}
 use Rattle.allocation.proofs.SearchLaws.{find-end, find-high, find-here, find-next, find-passes, find-none}
@@ -103,34 +104,16 @@ module _ (v : View) (f i n : ℕ) (o : Onward v f i n) where
 
 -- ---- it is the last of the file's chain, since no chain is longer than the number of index tables
 
-among : (F : ℕ → ℕ) (m i : ℕ) → ((k : ℕ) × (k < m) × (F k ≡ i)) ⊎ ((k : ℕ) → k < m → F k ≢ i)
-among F zero i = inr (λ k l. absurd (not-suc-le-zero l))
-among F (suc m) i =
-    elim (ℕ-discrete (F m) i) [
-      | yes e ↦ inl (m, omega arith, e)
-      | no ne ↦ ⊎-elim (λ r. inl (r .0, omega (arith, r .1), r .2)) (λ h. inr (λ k l. elim (ℕ-discrete k m) [ yes q ↦ (λ e. ne (ap F (sym q) ∙ e)) | no q ↦ h k (omega arith) ])) (among F m i)
-    ]
-
 -- m different numbers below n
-different-le : (n m : ℕ) (F : ℕ → ℕ) → ((k : ℕ) → k < m → F k < n) → ((k : ℕ) → k < m → (j : ℕ) → j < k → F j ≢ F k) → m ≤ n
+pub different-le : (n m : ℕ) (F : ℕ → ℕ) → ((k : ℕ) → k < m → F k < n) → ((k : ℕ) → k < m → (j : ℕ) → j < k → F j ≢ F k) → m ≤ n
 different-le n m F below once =
-    let s = sum-out n m F (λ i. 1) rest below once (λ k l. zero-at (F k) (k, l, refl) (among F m (F k))) (λ i l ne. one-at i ne (among F m i)) in
-    omega (arith, sum-one m (λ k. 1) (λ k l. refl), sum-one n (λ k. 1) (λ k l. refl))
+    let taken = sum-out n m F (λ i. 1) (λ i. 1 - met i) below once
+    (λ k l. omega (arith, only-eq (F k) (F k) 1 refl, sum-part m k (λ j. onlyIf (eqb (F j) (F k)) 1) l))
+    (λ i l out. omega (arith, sum-zero m (λ k. onlyIf (eqb (F k) i) 1) (λ k lk. only-ne (F k) i 1 (out k lk)))) in
+    omega (arith, taken, sum-one m (λ k. 1) (λ k l. refl), sum-one n (λ k. 1) (λ k l. refl))
   where
-    side : (i : ℕ) → ((k : ℕ) × (k < m) × (F k ≡ i)) ⊎ ((k : ℕ) → k < m → F k ≢ i) → ℕ
-    side i (inl r) = 0
-    side i (inr h) = 1
-
-    rest : ℕ → ℕ
-    rest i = side i (among F m i)
-
-    zero-at : (i : ℕ) → ((k : ℕ) × (k < m) × (F k ≡ i)) → (d : ((k : ℕ) × (k < m) × (F k ≡ i)) ⊎ ((k : ℕ) → k < m → F k ≢ i)) → side i d ≡ 0
-    zero-at i r (inl q) = refl
-    zero-at i r (inr h) = absurd (h (r .0) (r .1) (r .2))
-
-    one-at : (i : ℕ) → ((k : ℕ) → k < m → F k ≢ i) → (d : ((k : ℕ) × (k < m) × (F k ≡ i)) ⊎ ((k : ℕ) → k < m → F k ≢ i)) → side i d ≡ 1
-    one-at i ne (inl r) = absurd (ne (r .0) (r .1) (r .2))
-    one-at i ne (inr h) = refl
+    met : ℕ → ℕ
+    met i = sumTo m (λ k. onlyIf (eqb (F k) i) 1)
 
 module _ (v : View) (f m : ℕ) (parent : Parent v f) (ch : FileChain v f m) where
   pub chain-begins : (k : ℕ) → k < suc m → (w : ℕ) × Begins v (walk (next v) f k) w
@@ -228,8 +211,16 @@ module _ (i : ℕ) (t : List ℕ) where
     pub used-some : (j : ℕ) → j < slotsOf i t → Used i t j → 1 ≤ usedPointers i t
     used-some j l u = elim (ℕ-discrete (usedPointers i t) 0) [ yes z ↦ absurd (used-not j l (omega arith) u) | no ne ↦ omega arith ]
 
+  -- the pointers of a table begin behind what a child has before them
   pub base-low : 22 ≤ baseOf i t
   base-low = elim (ℕ-discrete (wordOf t) i) [ yes e ↦ omega (arith, base-parent i t e) | no ne ↦ omega (arith, base-child i t ne) ]
+
+  -- and end before its link, unless it is free
+  pub slots-end : wordOf t ≢ 0 → baseOf i t + 6 * slotsOf i t ≡ 124
+  slots-end nz = elim (ℕ-discrete (wordOf t) i) [
+    | yes e ↦ omega (arith, base-parent i t e, slots-parent i t nz e)
+    | no ne ↦ omega (arith, base-child i t ne, slots-child i t nz ne)
+  ]
 
   pub place-in : baseOf i t + 6 * usedPointers i t ≤ 124
   place-in = omega (arith, used-le, slots-in i t)

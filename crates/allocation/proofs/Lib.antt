@@ -8,10 +8,12 @@ pub mod OrderLaws
 pub mod TailLaws
 pub mod TableLaws
 pub mod LastLaws
+pub mod FileSame
 pub mod StepLaws
 pub mod TakenHeld
 pub mod PointerBytes
 pub mod ChangeLaws
+pub mod EndsLaws
 pub mod WrittenHeld
 pub mod ExtendedHeld
 pub mod MadeHeld

@@ -23,7 +23,8 @@ use Rattle.allocation.specs.Choice.{begun, lowestBegun, lowestOpen, clea
 use Rattle.allocation.specs.Stock.{counted, Stocked, Behind}
 use Rattle.allocation.specs.Steps.{Taken}
 use Rattle.allocation.proofs.SearchLaws.{find-same}
-use Rattle.allocation.proofs.NextLaws.{begun-low, begun-next, open-next}
+use Rattle.allocation.proofs.NextBlockLaws.{next-begun, next-open}
+use Rattle.allocation.proofs.NextLaws.{begun-low}
 
 pub ground-sym : {v v' : View} → Ground v v' → Ground v' v
 ground-sym g = record {
@@ -80,10 +81,10 @@ module _ (v v' : View) (g : Ground v v') where
   next-ground t =
       let e = lowest-begun t in
       elim (decLt (lowestBegun v t) (v .zones)) [
-        | yes h ↦ begun-next v' t (rw (e, g .zones) h) ∙ ap (begunBlock v' t) e
-            ∙ begun-block t _ (omega (arith, begun-low v t)) (omega arith) ∙ sym (begun-next v t h)
-        | no h ↦ open-next v' t (rw (e, g .zones) (omega arith))
-            ∙ ap (λ (z : ℕ). record { zone = record { 0 = z }; number = 0; free = perZone t - 1 }) lowest-open ∙ sym (open-next v t (omega arith))
+        | yes h ↦ next-begun v' t (rw (e, g .zones) h) ∙ ap (begunBlock v' t) e
+            ∙ begun-block t _ (omega (arith, begun-low v t)) (omega arith) ∙ sym (next-begun v t h)
+        | no h ↦ next-open v' t (rw (e, g .zones) (omega arith))
+            ∙ ap (λ (z : ℕ). record { zone = record { 0 = z }; number = 0; free = perZone t - 1 }) lowest-open ∙ sym (next-open v t (omega arith))
       ]
 
   -- ---- what is asked of the books and of a block

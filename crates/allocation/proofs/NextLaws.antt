@@ -1,16 +1,14 @@
 -- The next block: where there is room it is a free one, and none of its type is free before it. Assumes nothing.
 use mathlib.Core.Path.{_≡_, refl, sym, ap, _∙_}
 use mathlib.Core.Logic.{_≢_, _⊎_, inl, inr, ⊎-elim}
-use mathlib.Core.Bool.{Bool, true, false, cond}
+use mathlib.Core.Bool.{Bool, true, false}
 use mathlib.Core.List.{List, _∷_}
 use Prim.Native.Nat.{ℕ, suc, _+_, _-_, _*_, _/_, _≤_, _<_}
 use native.Mathlib.Nat.{mul-zero}
 use native.Mathlib.Decide.{decLt}
 use native.Mathlib.Omega.{arith}
-use lib.Dec.{eqb}
-use borrow.Author.Tests.{eqb-true, eqb-false, eq-eqb, ne-eqb, ltb-true, ltb-false, lt-ltb, le-ltb}
+use borrow.Author.Tests.{eqb-true, eqb-false, eq-eqb, ne-eqb, ltb-false}
 use Rattle.field.proofs.Sums.{sum-zero, sum-one, sum-le, sum-some, sum-part}
-use Rattle.tables.specs.declared.zone.ZoneEntry.{ZoneEntry}
 use Rattle.tables.specs.Kinds.{firstOf}
 use Rattle.tables.specs.Blocks.{Typed, Block, blockOf}
 use Rattle.tables.specs.Open.{isOpen, openZones}
@@ -26,6 +24,7 @@ use Rattle.allocation.specs.Choice.{begun, lowestBegun, lowestOpen, clea
 use Rattle.allocation.specs.Stock.{counted, AllTyped, Stocked, Proper, Behind}
 use Rattle.allocation.specs.Steps.{Choosable, Taken}
 use Rattle.allocation.proofs.SearchLaws.{find-low, find-none, find-passes, find-some}
+use Rattle.allocation.proofs.NextBlockLaws.{begun-is, next-begun, next-open}
 
 -- ---- the two ways in which a block is next
 
@@ -49,16 +48,6 @@ pub record OfOpen (v : View) (t : ℕ) (k : Found) : Type 0 where
   pub none : (z : ℕ) → z < v .zones → 2 ≤ z → begun v t z ≡ false
   pub number : k .number ≡ 0
   pub free : suc (k .free) ≡ perZone t
-
--- what a zone's entry says that has free blocks of type t without being open
-pub begun-is : (t : ℕ) (e : ZoneEntry) → 0 < spareIn t e → (isOpen e ≡ false) × (e .ztype ≡ t) × (0 < e .free)
-unfolding spareIn onlyIf
-begun-is t e h = go (isOpen e) (eqb (e .ztype) t) refl refl h
-  where
-    go : (o a : Bool) → isOpen e ≡ o → eqb (e .ztype) t ≡ a → 0 < cond o 0 (onlyIf a (e .free)) → (isOpen e ≡ false) × (e .ztype ≡ t) × (0 < e .free)
-    go true a p q l = absurd (omega arith)
-    go false true p q l = (p, eqb-true _ _ q, l)
-    go false false p q l = absurd (omega arith)
 
 -- a clear zone's blocks, of whatever size, are free
 pub blocks-clear : (bit : ℕ → ℕ) (from size : ℕ) → Block size → ((n : ℕ) → n < 1024 → bit (from + n) ≡ 0) → Blocks bit from size (1024 / size)
@@ -112,14 +101,6 @@ module _ (v : View) (t : ℕ) where
   unfolding lowestBegun
   begun-low = find-low (begun v t) (v .zones - 2) 2
 
-  pub begun-next : lowestBegun v t < v .zones → nextBlock v t ≡ begunBlock v t (lowestBegun v t)
-  unfolding nextBlock
-  begun-next h = rw (lt-ltb (lowestBegun v t) (v .zones) h)
-
-  pub open-next : v .zones ≤ lowestBegun v t → nextBlock v t ≡ openBlock v t
-  unfolding nextBlock
-  open-next h = rw (le-ltb (lowestBegun v t) (v .zones) h)
-
   module _ (ts : List ℕ) (s : Stocked v (t ∷ ts)) where
     pub next-typed : Typed t
     unfolding AllTyped
@@ -143,14 +124,14 @@ module _ (v : View) (t : ℕ) where
     begun-block h =
         let z = lowestBegun v t in
         let lo = begun-low in
-        let is = begun-is t (v .zone z) (ltb-true 0 _ (find-passes (begun v t) (v .zones - 2) 2 (omega arith))) in
-        let l = clear-some z lo h (is .1) (is .2) in
+        let is = begun-is v t z (find-passes (begun v t) (v .zones - 2) 2 (omega arith)) in
+        let l = clear-some z lo h (is .ztype) (is .some) in
         record {
           low = lo;
           high = h;
-          closed = is .0;
-          ztype = is .1;
-          free = omega (arith, is .2);
+          closed = is .shut;
+          ztype = is .ztype;
+          free = omega (arith, is .some);
           within = l;
           first = eqb-true _ 0 (find-passes (clear v t z) (perZone t) 0 (omega arith));
           zones = λ y ly loy. find-none (begun v t) (v .zones - 2) 2 y ly loy;
@@ -191,8 +172,8 @@ module _ (v : View) (t : ℕ) where
     pub next-is : OfBegun v t (nextBlock v t) ⊎ OfOpen v t (nextBlock v t)
     next-is =
         elim (decLt (lowestBegun v t) (v .zones)) [
-          | yes h ↦ inl (rw (begun-next h) (begun-block h))
-          | no h ↦ inr (rw (open-next (omega arith)) (open-block (omega arith)))
+          | yes h ↦ inl (rw (next-begun v t h) (begun-block h))
+          | no h ↦ inr (rw (next-open v t (omega arith)) (open-block (omega arith)))
         ]
 
     -- ---- either way it may be taken

@@ -111,7 +111,7 @@ module _ (p : Places) (f : ℕ) (b : List ℕ) (c : Cursor) (l : Tail) (ts : Lis
     pub taking-head : Head p b
     taking-head = chained-head p b (h .chained) (omega (arith, tables-least p b l ts, h .enough, h .new ne .1))
 
-    first-free : Free (viewOf p b) (firstFreeOf b)
+    pub first-free : Free (viewOf p b) (firstFreeOf b)
     first-free = chained-free p b (h .chained) (λ z. omega (arith, taking-head .low))
 
     other : c .table .0 ≢ firstFreeOf b

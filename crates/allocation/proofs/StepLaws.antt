@@ -26,7 +26,7 @@ use Rattle.tables.proofs.ZoneEntryLaws.{zone-kept}
 use Rattle.allocation.specs.NewTables.{tablePlace, takeTable, putChild, putPointer, New, putName, putDates, putSize, putParent, countFile}
 use Rattle.allocation.specs.Ready.{Head}
 use Rattle.allocation.specs.Steps.{SameCounts, withPointer, childBytes, parentBytes, Written, Extended, Made}
-use Rattle.allocation.proofs.TableLaws.{table-put16, table-put32, table-over, table-other}
+use Rattle.allocation.proofs.TableLaws.{table-put16, table-put32, table-over, table-other, counts-past}
 
 -- ---- frames
 
@@ -93,13 +93,7 @@ module _ {p : Places} {len : ℕ} (lay : Layout p len) {b b' : List ℕ} where
       calm = calm-table;
       head = u32-kept 1050 k (inl (omega arith));
       free = u32-kept 1036 k (inl (omega arith));
-      counts = record {
-        active = u32-kept 1028 k (inl (omega arith));
-        deleted = u32-kept 1032 k (inl (omega arith));
-        system = u16-kept 1040 k (inl (omega arith));
-        directory = u16-kept 1042 k (inl (omega arith));
-        flag = u16-kept 1054 k (inl (omega arith));
-      };
+      counts = counts-past p k (omega arith);
     }
 
 -- ---- a pointer

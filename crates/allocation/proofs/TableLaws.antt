@@ -1,4 +1,4 @@
--- An index table after a write in it, and what such a write leaves of the books. Assumes nothing.
+-- An index table after a write in it, and what a write behind sector 1 leaves of the books. Assumes nothing.
 use mathlib.Core.Path.{_≡_, refl, sym, ap, _∙_}
 use mathlib.Core.Logic.{inl, inr, ⊎-elim, _≢_}
 use mathlib.Core.List.{List, [], _∷_, append-assoc}
@@ -10,16 +10,19 @@ use lib.Seq.{take-set-lt, drop-set-add, sets, sets-eq}
 use Rattle.field.specs.Numbers.{putU16, putU32}
 use Rattle.field.specs.Parts.{over}
 use Rattle.field.specs.Kept.{Kept}
+use Rattle.field.proofs.NumberLaws.{u16-kept, u32-kept}
 use Rattle.field.proofs.BitLaws.{differ}
 use Rattle.tables.specs.declared.places.Places.{Places}
 use Rattle.tables.specs.Places.{Layout}
 use Rattle.tables.specs.Indexes.{tableAt, minus}
 use Rattle.tables.specs.Sector1.{firstFreeOf}
+use Rattle.tables.specs.Views.{viewOf}
 use Rattle.tables.proofs.ChildLaws.{minus-is}
 use Rattle.tables.proofs.FrameLaws.{table-kept}
 use Rattle.tables.proofs.IndexLaws.{length-table}
 use Rattle.allocation.specs.NewTables.{tablePlace, takeTable, putChild}
 use Rattle.allocation.specs.Ready.{Head}
+use Rattle.allocation.specs.Steps.{SameCounts, SameFiles}
 
 -- ---- a part of a list, after a write within it
 
@@ -72,6 +75,27 @@ module _ (p : Places) (b : List ℕ) (i o : ℕ) where
 
 pub table-other : {b b' : List ℕ} (p : Places) (i j : ℕ) → Kept b b' (tablePlace p i) 128 → 1 ≤ i → 1 ≤ j → j ≢ i → tableAt p b' j ≡ tableAt p b j
 table-other p i j k lo low ne = table-kept p j k (⊎-elim (λ l. inl (omega arith)) (λ l. inr (omega arith)) (differ j i ne))
+
+-- ---- what a write behind sector 1 leaves: its counts, and in front of the index tables all that is known of files
+
+module _ {b b' : List ℕ} {o n : ℕ} (p : Places) (k : Kept b b' o n) (past : 2048 ≤ o) where
+  pub counts-past : SameCounts (viewOf p b) (viewOf p b')
+  counts-past = record {
+    active = u32-kept 1028 k (inl (omega arith));
+    deleted = u32-kept 1032 k (inl (omega arith));
+    system = u16-kept 1040 k (inl (omega arith));
+    directory = u16-kept 1042 k (inl (omega arith));
+    flag = u16-kept 1054 k (inl (omega arith));
+  }
+
+  pub files-between : o + n ≤ p .indextable → SameFiles (viewOf p b) (viewOf p b')
+  files-between before = record {
+    indexes = refl;
+    head = u32-kept 1050 k (inl (omega arith));
+    free = u32-kept 1036 k (inl (omega arith));
+    counts = counts-past;
+    table = λ i lo hi. table-kept p i k (inr (omega arith));
+  }
 
 -- ---- the writes that make a child of the first free table
 

@@ -9,7 +9,7 @@ use native.Mathlib.Omega.{arith}
 use Rattle.tables.specs.declared.zone.ZoneEntry.{ZoneEntry}
 use Rattle.tables.specs.Kinds.{zoneOf, firstOf}
 use Rattle.tables.specs.Blocks.{Block, blockOf, Whole}
-use Rattle.tables.specs.Indexes.{linkOf, startOf}
+use Rattle.tables.specs.Indexes.{linkOf}
 use Rattle.tables.specs.Views.{View, Begins, Parent, walk, next, cov, tally, overOf, pointersOver, Under}
 use Rattle.tables.specs.Same.{Same}
 use Rattle.tables.specs.Rules.R2.{R2, ZoneBits}
@@ -17,7 +17,7 @@ use Rattle.tables.specs.Rules.R3.{R3}
 use Rattle.tables.specs.Rules.R4.{R4}
 use Rattle.tables.specs.Rules.R5.{FileChain, R5}
 use Rattle.tables.specs.Rules.R6.{Run}
-use Rattle.tables.specs.Rules.R8.{fileSectors, fileType, File}
+use Rattle.tables.specs.Rules.R8.{fileSectors, File}
 use Rattle.tables.specs.Rules.R9.{freeOne, activeOne, deletedOne, systemOne, directoryOne, R9}
 use Rattle.tables.proofs.BlockLaws.{block-of, block-end, block-in}
 use Rattle.tables.proofs.ChainLaws.{walk-same}
@@ -29,6 +29,7 @@ use Rattle.allocation.specs.Choice.{sectorOf}
 use Rattle.allocation.specs.Steps.{Choosable, Taken, SameFiles}
 use Rattle.allocation.specs.Held.{Shapely, Held, Ends, InType}
 use Rattle.allocation.proofs.LastLaws.{chain-begins}
+use Rattle.allocation.proofs.FileSame.{file-same}
 use Rattle.allocation.proofs.ChangeLaws.{under-run, other-under}
 
 -- ---- runs
@@ -51,33 +52,34 @@ whole-own from size m some n l j lj =
       ]
     ]
 
-module _ {v v' : View} {t : ℕ} {k : Found} (can : Choosable v t k) (took : Taken v v' t k) where
-  -- only a clear zone gets another type
-  type-or-clear : (z : ℕ) → 1 ≤ z → z ≤ v .zones → (v' .zone z .ztype ≡ v .zone z .ztype) ⊎ ZoneBits v z 0
-  type-or-clear z lo hi =
-      elim (ℕ-discrete z (k .zone .0)) [
-        | yes e ↦ rw e (⊎-elim (λ h. inl (ap (λ (x : ZoneEntry). x .ztype) (took .here) ∙ sym h)) (λ h. inr h) (can .kept))
-        | no ne ↦ inl (ap (λ (x : ZoneEntry). x .ztype) (took .there z lo hi ne))
-      ]
-
+-- only a clear zone gets another type
+module _ (v v' : View) (zones : v' .zones ≡ v .zones) (either : (z : ℕ) → 2 ≤ z → z < v .zones → (v' .zone z .ztype ≡ v .zone z .ztype) ⊎ ZoneBits v z 0) where
   pub type-kept : (s : ℕ) → s < 1024 * (v .zones - 1) → 1024 ≤ s → v .bit s ≡ 1 → v' .zone (zoneOf s) .ztype ≡ v .zone (zoneOf s) .ztype
   type-kept s l lo set =
       let e : firstOf (zoneOf s) + s % 1024 ≡ s = omega arith in
-      ⊎-elim (λ h. h) (λ c. absurd (omega (arith, set, ap (v .bit) e, c (s % 1024) (omega arith)))) (type-or-clear (zoneOf s) (omega arith) (omega arith))
+      ⊎-elim (λ h. h) (λ c. absurd (omega (arith, set, ap (v .bit) e, c (s % 1024) (omega arith)))) (either (zoneOf s) (omega arith) (omega arith))
 
   pub run-kept : (a c : ℕ) → Run v a c → ((s : ℕ) → a ≤ s → s < a + c → v .bit s ≡ 1) → Run v' a c
   run-kept a c r set = record {
     some = r .some;
     few = r .few;
     low = r .low;
-    high = rw (took .zones) (r .high);
+    high = rw zones (r .high);
     typed = λ s h l. rw (type-kept s (omega (arith, r .high)) (omega (arith, r .low)) (set s l h)) (r .typed s h l);
-    whole = λ z l lo ty. (let l' : z < v .zones = rw (took .zones) at l in
-        ⊎-elim (λ e. rw e (r .whole z l' lo (rw e at ty))) (λ clear. whole-none a c (firstOf z) _ (block-of _ ty) (none z clear)) (type-or-clear z (omega arith) (omega arith)));
+    whole = λ z l lo ty. (let l' : z < v .zones = rw zones at l in
+        ⊎-elim (λ e. rw e (r .whole z l' lo (rw e at ty))) (λ clear. whole-none a c (firstOf z) _ (block-of _ ty) (none z clear)) (either z lo l'));
   }
     where
       none : (z : ℕ) → ZoneBits v z 0 → (x : ℕ) → x < 1024 → cov a c (firstOf z + x) ≡ 0
       none z clear x l = ⊎-elim (λ h. absurd (omega (arith, set (firstOf z + x) (h .low) (h .high), clear x l))) (λ e. e) (cov-cases a c (firstOf z + x))
+
+module _ {v v' : View} {t : ℕ} {k : Found} (can : Choosable v t k) (took : Taken v v' t k) where
+  type-or-clear : (z : ℕ) → 2 ≤ z → z < v .zones → (v' .zone z .ztype ≡ v .zone z .ztype) ⊎ ZoneBits v z 0
+  type-or-clear z lo hi =
+      elim (ℕ-discrete z (k .zone .0)) [
+        | yes e ↦ rw e (⊎-elim (λ h. inl (ap (λ (x : ZoneEntry). x .ztype) (took .here) ∙ sym h)) (λ h. inr h) (can .kept))
+        | no ne ↦ inl (ap (λ (x : ZoneEntry). x .ztype) (took .there z (omega arith) (omega arith) ne))
+      ]
 
   -- the block lies in its zone
   inside : (sectorOf t k ≡ firstOf (k .zone .0) + k .number * blockOf t) × (k .number * blockOf t + blockOf t ≤ 1024)
@@ -220,35 +222,21 @@ module _ {v v' : View} {t : ℕ} {k : Found} (can : Choosable v t k) (took : Tak
   under-type : (i j s : ℕ) → Under v i j s → v' .zone (zoneOf s) .ztype ≡ v .zone (zoneOf s) .ztype
   under-type i j s u =
       let r = under-run v f (held .r6) i j s u in
-      type-kept can took s (omega (arith, r .high, u .to)) (omega (arith, r .low, u .from)) (held-set held bits i j s u)
+      type-kept v v' (took .zones) (type-or-clear can took) s (omega (arith, r .high, u .to)) (omega (arith, r .low, u .from)) (held-set held bits i j s u)
 
   pub taken-types : (q ty : ℕ) → InType v q ty → InType v' q ty
   taken-types q ty h i j s e u =
       let w = files-under files i j s u in
       under-type i j s w ∙ h i j s (rw (files .table i (w .low) (w .high)) at e) w
 
-  taken-type : (p : ℕ) → Parent v p → p ≢ f → fileType v' p ≡ fileType v p
-  unfolding fileType
-  taken-type p h ne =
-      ap (λ (x : List ℕ). v' .zone (zoneOf (startOf p x 0)) .ztype) (files .table p (h .low) (h .high)) ∙ under-type p 0 _ (other-under v f (held .r6) p h ne)
-
-  taken-file : (p : ℕ) → Parent v p → p ≢ f → File v p (v .table p) → File v' p (v .table p)
-  taken-file p h ne l = record {
-    name = l .name;
-    least = l .least;
-    most = rw (files-sectors files p) (l .most);
-    fixed = l .fixed;
-    variable = λ e. rw (taken-type p h ne) (taken-types p (fileType v p) (l .variable e));
-    weights = l .weights;
-    both = l .both;
-    created = l .created;
-    changed = l .changed;
-  }
+  taken-file : (p : ℕ) → Parent v p → p ≢ f → File v p (v .table p) → File v' p (v' .table p)
+  taken-file p h ne = file-same v v' under-type p (other-under v f (held .r6) p h ne) (files .table p (h .low) (h .high))
+      (λ i j s e u. let w = files-under files i j s u in (rw (files .table i (w .low) (w .high)) at e, w)) (files-sectors files p)
 
   taken-shape : (i : ℕ) → 1 ≤ i → i ≤ v .indexes → Shapely v f i (v .table i) → Shapely v' f i (v .table i)
   taken-shape i lo hi h = record {
     first = h .first;
-    used = λ j l u. run-kept can took _ _ (h .used j l u) (λ s a b. held-set held bits i j s (record { low = lo; high = hi; slot = l; from = a; to = b }));
+    used = λ j l u. run-kept v v' (took .zones) (type-or-clear can took) _ _ (h .used j l u) (λ s a b. held-set held bits i j s (record { low = lo; high = hi; slot = l; from = a; to = b }));
     one = h .one;
     header = h .header;
   }
@@ -263,6 +251,6 @@ module _ {v v' : View} {t : ℕ} {k : Found} (can : Choosable v t k) (took : Tak
         rw (files .table i lo hi) (taken-shape i lo hi (held .r6 i (omega arith) lo)));
     r7 = λ s l lo. (let l' : s < 1024 * (v .zones - 1) = rw (took .zones) at l in omega (arith, files-over files s, held .r7 s l' lo, took .bit s (omega arith)));
     r8 = λ p l lo ne. (let hi : p ≤ v .indexes = omega (arith, files .indexes) in
-        rw (files .table p lo hi) (λ w. taken-file p (record { low = lo; high = hi; word = w }) ne (held .r8 p (omega arith) lo ne w)));
+        λ w. (let word = rw (files .table p lo hi) at w in taken-file p (record { low = lo; high = hi; word = word }) ne (held .r8 p (omega arith) lo ne word)));
     r9 = files-R9 files (held .r9);
   }

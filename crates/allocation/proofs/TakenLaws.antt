@@ -10,7 +10,6 @@ use lib.ListN.{getD, length}
 use Rattle.field.specs.Kept.{Kept}
 use Rattle.field.specs.Runs.{Room}
 use Rattle.field.proofs.Frames.{kept-trans, kept-wider}
-use Rattle.field.proofs.NumberLaws.{u16-kept, u32-kept}
 use Rattle.field.proofs.BitLaws.{bit-kept}
 use Rattle.field.proofs.RunLaws.{kept-setBits, set-in, set-out}
 use Rattle.tables.specs.declared.places.Places.{Places}
@@ -20,7 +19,6 @@ use Rattle.tables.specs.Sectors.{sectorAt}
 use Rattle.tables.specs.Views.{viewOf, cov}
 use Rattle.tables.specs.Zones.{zoneAt, putZone}
 use Rattle.tables.specs.Rules.R1.{Stand, Tails}
-use Rattle.tables.proofs.FrameLaws.{table-kept}
 use Rattle.tables.proofs.PointerLaws.{cov-in, cov-before, cov-after}
 use Rattle.tables.proofs.ZoneEntryLaws.{zone-kept, kept-putZone, zone-put}
 use Rattle.allocation.specs.declared.choice.Found.{Found}
@@ -28,6 +26,7 @@ use Rattle.allocation.specs.Choice.{sectorOf, putBlock}
 use Rattle.allocation.specs.Stock.{Proper}
 use Rattle.allocation.specs.Steps.{Choosable, Taken, SameFiles}
 use Rattle.allocation.proofs.NextBlockLaws.{block-high, block-room}
+use Rattle.allocation.proofs.TableLaws.{files-between}
 
 module _ (p : Places) (b : List ℕ) (t : ℕ) (k : Found) where
   -- the books with the zone's entry written
@@ -62,21 +61,7 @@ module _ (p : Places) (b : List ℕ) (t : ℕ) (k : Found) where
     block-sector0 j l = kept-putBlock .out j (inl (omega arith))
 
     pub block-files : SameFiles (viewOf p b) (viewOf p (putBlock p b t k))
-    block-files =
-        let K = kept-putBlock in
-        record {
-          indexes = refl;
-          head = u32-kept 1050 K (inl (omega arith));
-          free = u32-kept 1036 K (inl (omega arith));
-          counts = record {
-            active = u32-kept 1028 K (inl (omega arith));
-            deleted = u32-kept 1032 K (inl (omega arith));
-            system = u16-kept 1040 K (inl (omega arith));
-            directory = u16-kept 1042 K (inl (omega arith));
-            flag = u16-kept 1054 K (inl (omega arith));
-          };
-          table = λ i lo hi. table-kept p i K (inr (omega arith));
-        }
+    block-files = files-between p kept-putBlock (omega arith) (omega arith)
 
     -- ---- zones and sectors
 

@@ -17,27 +17,17 @@ use Rattle.tables.specs.Views.{View, Begins, Parent, Child, walk, next, cov, ov
 use Rattle.tables.specs.Rules.R5.{FileChain, Stands, R5}
 use Rattle.tables.specs.Rules.R6.{Run}
 use Rattle.tables.proofs.ChildLaws.{chain-one}
-use Rattle.tables.proofs.IndexLaws.{slots-in, slots-parent, slots-child, base-parent, base-child}
+use Rattle.tables.proofs.IndexLaws.{slots-in, base-parent}
 use Rattle.tables.proofs.PointerLaws.{cov-cases, cov-in, cov-none, cov-join}
 use Rattle.tables.proofs.CountLaws.{only-eq}
 use Rattle.tables.proofs.SameLaws.{ground-R2, ground-R3}
 use Rattle.allocation.specs.declared.growth.Cursor.{Cursor}
 use Rattle.allocation.specs.Steps.{Written}
 use Rattle.allocation.specs.Held.{Shapely, Held, Ends, InType}
-use Rattle.allocation.proofs.PointerBytes.{word-kept, parent-kept, slots-kept, base-kept, file-kept, start-kept, count-kept, kept-pointer, pointer-start, pointer-count, pointer-read}
-use Rattle.allocation.proofs.ChangeLaws.{Changed, Longer, Stays, stays-same, member-begins, member-file, member-word, ground-zone, ground-run, walk-stays, chain-stays, stay-R4, changed-R5, changed-R6, pointers-at, sectors-at, under-zone, changed-types, changed-R8, stay-R9}
-
--- the pointers of a table begin behind what a child has before them
-pub base-low : (i : ℕ) (t : List ℕ) → 22 ≤ baseOf i t
-base-low i t = elim (ℕ-discrete (wordOf t) i) [ yes e ↦ omega (arith, base-parent i t e) | no ne ↦ omega (arith, base-child i t ne) ]
-
--- and end before its link, unless it is free
-pub slots-end : (i : ℕ) (t : List ℕ) → wordOf t ≢ 0 → baseOf i t + 6 * slotsOf i t ≡ 124
-slots-end i t nz =
-    elim (ℕ-discrete (wordOf t) i) [
-      | yes e ↦ omega (arith, base-parent i t e, slots-parent i t nz e)
-      | no ne ↦ omega (arith, base-child i t ne, slots-child i t nz ne)
-    ]
+use Rattle.allocation.proofs.LastLaws.{base-low}
+use Rattle.allocation.proofs.EndsLaws.{end-begins, end-file, end-more, last-place, last-start, last-count}
+use Rattle.allocation.proofs.PointerBytes.{word-kept, parent-kept, slots-kept, file-kept, kept-pointer, pointer-read, start-others, count-others, at-slot, start-slot, count-slot}
+use Rattle.allocation.proofs.ChangeLaws.{Changed, Longer, Stays, stays-same, member-begins, member-word, ground-zone, ground-run, walk-stays, chain-stays, stay-R4, changed-R5, changed-R6, pointers-at, sectors-at, under-zone, changed-types, changed-R8, stay-R9}
 
 -- slot j of file f's last table reads q, which lies over what it lay over before and the n sectors from a on
 module _ (v v' : View) (f at : ℕ) (q : Pointer) (c : Cursor) (w : Written v v' (c .table .0) at q) (few : v .indexes ≤ 4096)
@@ -57,7 +47,7 @@ module _ (v v' : View) (f at : ℕ) (q : Pointer) (c : Cursor) (w : Written v v'
   t' = v' .table (c .table .0)
 
   i-begins : (x : ℕ) × Begins v i x × (x ≢ 0)
-  i-begins = rw (e .table) at (member-begins v few f (e .long) (e .parent) (e .chain) (e .long) (omega arith))
+  i-begins = end-begins v few f c e
 
   i-low : 1 ≤ i
   i-low = i-begins .1 .low
@@ -66,7 +56,7 @@ module _ (v v' : View) (f at : ℕ) (q : Pointer) (c : Cursor) (w : Written v v'
   i-high = i-begins .1 .high
 
   i-file : fileOf i t ≡ f
-  i-file = rw (e .table) at (member-file v few f (e .long) (e .parent) (e .chain) (e .long) (omega arith))
+  i-file = end-file v few f c e
 
   i-word : (wordOf t ≡ i) ⊎ (wordOf t ≡ minus i)
   i-word = rw (e .table) at (member-word v few f (e .long) (e .parent) (e .chain) (e .long) (omega arith))
@@ -101,19 +91,16 @@ module _ (v v' : View) (f at : ℕ) (q : Pointer) (c : Cursor) (w : Written v v'
   same-slots = slots-kept i kept behind
 
   other-start : (l : ℕ) → l ≢ j → startOf i t' l ≡ startOf i t l
-  other-start l ne = start-kept i kept behind l (elim (decLt l j) [ yes h ↦ inl (omega arith) | no h ↦ inr (omega arith) ])
+  other-start = start-others i at j t t' q (w .here) place
 
   other-count : (l : ℕ) → l ≢ j → countOf i t' l ≡ countOf i t l
-  other-count l ne = count-kept i kept behind l (elim (decLt l j) [ yes h ↦ inl (omega arith) | no h ↦ inr (omega arith) ])
-
-  at-slot : baseOf i t' + 6 * j ≡ at
-  at-slot = omega (arith, base-kept i kept behind)
+  other-count = count-others i at j t t' q (w .here) place
 
   new-start : startOf i t' j ≡ q .start .0
-  new-start = rw (at-slot, w .here) (pointer-start t at q (sized i i-low i-high) (omega (arith, fits)))
+  new-start = start-slot i at j t t' q (w .here) place (sized i i-low i-high) slot
 
   new-count : countOf i t' j ≡ q .count
-  new-count = rw (at-slot, w .here) (pointer-count t at q (sized i i-low i-high) (omega (arith, fits)))
+  new-count = count-slot i at j t t' q (w .here) place (sized i i-low i-high) slot
 
   used-to : (l : ℕ) → l < suc j → Used i t' l
   used-to l h = elim (ℕ-discrete l j) [
@@ -209,7 +196,7 @@ module _ (v v' : View) (f at : ℕ) (q : Pointer) (c : Cursor) (w : Written v v'
       table = walk-here (e .long) (omega arith) ∙ e .table;
       slot = suc j;
       within = rw same-slots slot;
-      place = omega (arith, at-slot);
+      place = omega (arith, at-slot i at j t t' q (w .here) place);
       used = used-to;
       unused = λ l h g. unused-from l (rw same-slots at h) g;
       pointer = λ g. rw (w .here) (pointer-read t at q (sized i i-low i-high) (omega (arith, fits)));
@@ -251,17 +238,8 @@ module _ (v v' : View) (f : ℕ) (c : Cursor) (few : v .indexes ≤ 4096) (sized
       (record { tail = record { last = record { start = c .tail .last .start; count = c .tail .last .count + n }; at = c .tail .at; tables = k }; table = c .table })
   joined-held n some w run less =
       slot-held v v' f (c .tail .at) (record { start = c .tail .last .start; count = c .tail .last .count + n }) c w few sized e run
-      (e .slot - 1) (c .tail .last .start .0 + c .tail .last .count) n (omega (arith, e .within)) place (λ l g. e .used l (omega arith)) (λ l g o. e .unused l g (omega arith))
-      (λ s. rw (start, count) (cov-join (c .tail .last .start .0) (c .tail .last .count) n s)) (rw count refl) d d' less h k
-    where
-      place : c .tail .at ≡ baseOf (c .table .0) (v .table (c .table .0)) + 6 * (e .slot - 1)
-      place = omega (arith, e .place)
-
-      start : startOf (c .table .0) (v .table (c .table .0)) (e .slot - 1) ≡ c .tail .last .start .0
-      start = rw (sym place) (sym (ap (λ (q : Pointer). q .start .0) (e .pointer some)))
-
-      count : countOf (c .table .0) (v .table (c .table .0)) (e .slot - 1) ≡ c .tail .last .count
-      count = rw (sym place) (sym (ap (λ (q : Pointer). q .count) (e .pointer some)))
+      (e .slot - 1) (c .tail .last .start .0 + c .tail .last .count) n (omega (arith, e .within)) (last-place v f c e some) (λ l g. e .used l (omega arith)) (λ l g o. e .unused l g (omega arith))
+      (λ s. rw (last-start v f c e some, last-count v f c e some) (cov-join (c .tail .last .start .0) (c .tail .last .count) n s)) (rw (last-count v f c e some) refl) d d' less h k
 
   -- a pointer of its own stands behind it
   pub beside-held : (q : Pointer) → Written v v' (c .table .0) (c .tail .at + 6) q → c .tail .at + 12 ≤ 124 → Run v (q .start .0) (q .count)
@@ -271,11 +249,8 @@ module _ (v v' : View) (f : ℕ) (c : Cursor) (few : v .indexes ≤ 4096) (sized
       slot-held v v' f (c .tail .at + 6) q c w few sized e run (e .slot) (q .start .0) (q .count) slot (e .place) (λ l g. e .used l g) (λ l g o. e .unused l g (omega arith))
       (λ s. rw (start, count) (omega (arith, cov-none 0 s))) (omega (arith, count)) d d' less h k
     where
-      nz : wordOf (v .table (c .table .0)) ≢ 0
-      nz z = let b = rw (e .table) at (member-begins v few f (e .long) (e .parent) (e .chain) (e .long) (omega arith)) in b .2 (sym (b .1 .word) ∙ z)
-
       slot : e .slot < slotsOf (c .table .0) (v .table (c .table .0))
-      slot = omega (arith, e .place, slots-end (c .table .0) (v .table (c .table .0)) nz)
+      slot = end-more v few f c e room
 
       none : startOf (c .table .0) (v .table (c .table .0)) (e .slot) + countOf (c .table .0) (v .table (c .table .0)) (e .slot) ≡ 0
       none = elim (ℕ-discrete (startOf (c .table .0) (v .table (c .table .0)) (e .slot) + countOf (c .table .0) (v .table (c .table .0)) (e .slot)) 0) [

@@ -72,8 +72,8 @@ follows-trans i t u w h k = record {
 pub record FileFollows (v v' : View) (f : ℕ) : Type 0 where
   pub each : (i : ℕ) → 1 ≤ i → i ≤ v .indexes → fileOf i (v .table i) ≡ f → Follows i (v .table i) (v' .table i)
 
-pub file-same : (v v' : View) (f : ℕ) → ((i : ℕ) → 1 ≤ i → i ≤ v .indexes → v' .table i ≡ v .table i) → FileFollows v v' f
-file-same v v' f same = record { each = λ i lo hi e. follows-same i (v .table i) (v' .table i) (same i lo hi) }
+pub file-stays : (v v' : View) (f : ℕ) → ((i : ℕ) → 1 ≤ i → i ≤ v .indexes → v' .table i ≡ v .table i) → FileFollows v v' f
+file-stays v v' f same = record { each = λ i lo hi e. follows-same i (v .table i) (v' .table i) (same i lo hi) }
 
 pub file-trans : (u v w : View) (f : ℕ) → v .indexes ≡ u .indexes → FileFollows u v f → FileFollows v w f → FileFollows u w f
 file-trans u v w f same h k = record {
@@ -91,7 +91,7 @@ module _ (v v' : View) (f : ℕ) (same : v' .indexes ≡ v .indexes) (h : FileFo
     | no ne ↦ omega (arith, only-ne (fileOf i (v .table i)) f (sectorsOf i (v .table i)) ne)
   ]
 
-  follows-most : fileSectors v f ≤ fileSectors v' f
+  pub follows-most : fileSectors v f ≤ fileSectors v' f
   unfolding fileSectors tally
   follows-most = rw same (sum-mono (v .indexes) _ _ (λ k l. own-most (k + 1) (omega arith) (omega arith)))
 

@@ -19,10 +19,10 @@ use Rattle.tables.specs.Rules.R9.{deletedBit, freeOne, activeOne, deletedOne, s
 use Rattle.tables.proofs.ChainLaws.{walk-none}
 use Rattle.tables.proofs.CountLaws.{Ones, only-eq, only-ne, ones-other, ones-deleted, free-yes, free-no}
 use Rattle.tables.proofs.IndexLaws.{file-free}
-use Rattle.allocation.proofs.ChangeLaws.{parent-file, sum-first}
+use Rattle.allocation.proofs.FileSame.{file-same}
+use Rattle.allocation.proofs.ChangeLaws.{parent-file, parent-under, sum-first}
 use Rattle.files.specs.Release.{fileTables}
 use Rattle.files.specs.Freed.{Freed}
-use Rattle.files.proofs.FileSame.{file-same}
 use Rattle.files.proofs.FileTables.{file-tally}
 use Rattle.files.proofs.FreedTables.{freed-word, tally-gone}
 
@@ -61,7 +61,7 @@ module _ (v v' : View) (f : ℕ) (h : Freed v v' f) where
       let e = h .there p lo hi out in
       let par : Parent v p = record { low = lo; high = hi; word = rw e at word } in
       let ne : p ≢ f = λ q. out (parent-file v p par ∙ q) in
-      file-same v v' r6 (type-left r6) p par e (under-left p lo) (sectors-left p lo ne) (r p (omega arith) lo (par .word))
+      file-same v v' (type-left r6) p (parent-under v r6 p par) e (under-left p lo) (sectors-left p lo ne) (r p (omega arith) lo (par .word))
 
   -- ---- R9
 

@@ -7,18 +7,18 @@ use native.Mathlib.Decide.{ℕ-discrete, decLt}
 use native.Mathlib.Omega.{arith}
 use lib.Dec.{eqb}
 use Rattle.field.proofs.Sums.{sum-same}
-use Rattle.tables.specs.Kinds.{zoneOf, firstOf}
+use Rattle.tables.specs.Kinds.{firstOf}
 use Rattle.tables.specs.Blocks.{Typed, blockOf, Whole}
 use Rattle.tables.specs.Indexes.{wordOf, slotsOf, startOf, countOf, fileOf}
 use Rattle.tables.specs.Views.{View, onlyIf, tally, overOf, pointersOver}
 use Rattle.tables.specs.Rules.R2.{ZoneBits, R2}
 use Rattle.tables.specs.Rules.R3.{R3}
-use Rattle.tables.specs.Rules.R6.{Run, Shape, R6}
+use Rattle.tables.specs.Rules.R6.{Shape, R6}
 use Rattle.tables.specs.Rules.R7.{R7}
 use Rattle.tables.proofs.BlockLaws.{block-of, block-in}
 use Rattle.tables.proofs.IndexLaws.{slots-free}
 use Rattle.tables.proofs.PointerLaws.{cov-none, under-some, under-inside}
-use Rattle.allocation.proofs.ChangeLaws.{over-free}
+use Rattle.allocation.proofs.ChangeLaws.{over-free, run-zones}
 use Rattle.files.specs.Freed.{gone, Freed}
 use Rattle.files.proofs.FreedTables.{freed-word, tally-gone}
 
@@ -55,23 +55,13 @@ module _ (v v' : View) (f : ℕ) (h : Freed v v' f) where
 
   -- ---- R6: zone entries stay
 
-  run-left : (a c : ℕ) → Run v a c → Run v' a c
-  run-left a c r = record {
-    some = r .some;
-    few = r .few;
-    low = r .low;
-    high = rw (h .zones) (r .high);
-    typed = λ s l lo. rw (h .zone (zoneOf s) (omega arith) (omega (arith, r .high))) (r .typed s l lo);
-    whole = λ z l lo. (let l' : z < v .zones = rw (h .zones) at l in rw (h .zone z (omega arith) (omega arith)) (r .whole z l' lo));
-  }
-
   pub freed-R6 : R6 v → R6 v'
   freed-R6 r i l lo =
       let hi : i ≤ v .indexes = omega (arith, h .indexes) in
       elim (ℕ-discrete (fileOf i (v .table i)) f) [
         | yes e ↦ blank-shape v' i (v' .table i) lo (freed-word v v' f h i lo hi e)
         | no ne ↦ (let s = r i (omega arith) lo in
-            rw (h .there i lo hi ne) (record { first = s .first; used = λ j lj u. run-left _ _ (s .used j lj u); one = s .one; header = s .header }))
+            rw (h .there i lo hi ne) (record { first = s .first; used = λ j lj u. run-zones v v' (h .zones) (h .zone) _ _ (s .used j lj u); one = s .one; header = s .header }))
       ]
 
   module _ (r6 : R6 v) where

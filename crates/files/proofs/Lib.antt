@@ -1,5 +1,4 @@
 pub mod FileTables
-pub mod FileSame
 pub mod SpotLaws
 pub mod SeekLaws
 pub mod PlaceLaws
@@ -15,6 +14,7 @@ pub mod RecountView
 pub mod RecountRules
 pub mod ReleasedLawful
 pub mod ReleaseLaws
-pub mod UntouchedLaws
 pub mod FollowLaws
+pub mod UntouchedLaws
+pub mod GrownSteps
 pub mod GrownFrame

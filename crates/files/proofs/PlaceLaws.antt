@@ -1,28 +1,26 @@
 -- A sector belongs to one place of one file: the k-th sectors of all files are different, and every sector under a pointer is one. Assumes nothing.
 use mathlib.Core.Path.{_≡_, refl, sym, ap, ap₂, _∙_}
-use mathlib.Core.Logic.{_≢_, ⊎-elim}
+use mathlib.Core.Logic.{⊎-elim}
 use mathlib.Core.List.{List}
 use Prim.Native.Nat.{ℕ, zero, suc, _+_, _-_, _*_, _≤_, _<_}
 use native.Mathlib.Nat.{eq-or-lt-of-le, le-of-suc-le-suc, not-suc-le-zero}
 use native.Mathlib.Decide.{decLt}
 use native.Mathlib.Omega.{arith}
-use lib.Dec.{eqb}
 use lib.ListN.{length}
 use Rattle.field.specs.Sum.{sumTo}
-use Rattle.field.proofs.Sums.{sum-part, sum-one, sum-zero, sum-out}
 use Rattle.field.proofs.BitLaws.{bitAt-lt}
 use Rattle.tables.specs.declared.places.Places.{Places}
 use Rattle.tables.specs.Indexes.{wordOf, minus, slotsOf, startOf, countOf, sectorsOf, fileOf}
 use Rattle.tables.specs.Places.{Layout}
 use Rattle.tables.specs.Lawful.{Lawful}
-use Rattle.tables.specs.Views.{View, viewOf, Begins, Parent, walk, next, onlyIf, Under}
+use Rattle.tables.specs.Views.{View, viewOf, Begins, Parent, walk, next, Under}
 use Rattle.tables.specs.Rules.R4.{R4}
 use Rattle.tables.specs.Rules.R5.{FileChain, R5}
 use Rattle.tables.specs.Rules.R8.{fileSectors}
 use Rattle.tables.proofs.ChainLaws.{walk-place}
-use Rattle.tables.proofs.CountLaws.{only-eq, only-ne}
 use Rattle.tables.proofs.IndexLaws.{slots-free}
 use Rattle.tables.proofs.PointerLaws.{one-pointer}
+use Rattle.allocation.proofs.LastLaws.{different-le}
 use Rattle.allocation.proofs.ChangeLaws.{parent-file, child-file, member-file}
 use Rattle.files.specs.declared.spot.Spot.{Spot}
 use Rattle.files.specs.Spots.{startAt, spotOf, kthSector}
@@ -41,17 +39,6 @@ sum-upto (suc n) i f l = ⊎-elim (λ e. rw e (omega arith)) (λ lt. omega (arit
 part-one : (f : ℕ → ℕ) (k i j : ℕ) → sumTo i f ≤ k → k < sumTo i f + f i → sumTo j f ≤ k → k < sumTo j f + f j → i ≡ j
 part-one f k i j li hi lj hj =
     elim (decLt i j) [ yes l ↦ absurd (omega (arith, sum-upto j i f l)) | no l ↦ elim (decLt j i) [ yes m ↦ absurd (omega (arith, sum-upto i j f m)) | no m ↦ omega arith ] ]
-
--- m different numbers below n
-different-le : (n m : ℕ) (F : ℕ → ℕ) → ((k : ℕ) → k < m → F k < n) → ((k : ℕ) → k < m → (j : ℕ) → j < k → F j ≢ F k) → m ≤ n
-different-le n m F below once =
-    let taken = sum-out n m F (λ i. 1) (λ i. 1 - met i) below once
-    (λ k l. omega (arith, only-eq (F k) (F k) 1 refl, sum-part m k (λ j. onlyIf (eqb (F j) (F k)) 1) l))
-    (λ i l out. omega (arith, sum-zero m (λ k. onlyIf (eqb (F k) i) 1) (λ k lk. only-ne (F k) i 1 (out k lk)))) in
-    omega (arith, taken, sum-one m (λ k. 1) (λ k l. refl), sum-one n (λ k. 1) (λ k l. refl))
-  where
-    met : ℕ → ℕ
-    met i = sumTo m (λ k. onlyIf (eqb (F k) i) 1)
 
 -- ---- a place in a file's chain and the number of its sector
 

@@ -1,7 +1,7 @@
 -- With the zone entries counted again all rules hold. Assumes nothing.
-use mathlib.Core.Path.{_≡_, refl, sym, ap, _∙_}
+use mathlib.Core.Path.{_≡_, refl, sym, _∙_}
 use mathlib.Core.Logic.{_⊎_, inl, inr, ⊎-elim}
-use Prim.Native.Nat.{ℕ, _+_, _-_, _*_, _%_, _≤_, _<_}
+use Prim.Native.Nat.{ℕ, _+_, _-_, _*_, _≤_, _<_}
 use native.Mathlib.Decide.{ℕ-discrete}
 use native.Mathlib.Omega.{arith}
 use borrow.Author.Tests.{eq-eqb, ne-eqb}
@@ -14,7 +14,7 @@ use Rattle.tables.specs.Rules.R2.{Reads, ZoneBits, InUse, R2}
 use Rattle.tables.specs.Rules.R3.{R3}
 use Rattle.tables.specs.Rules.R4.{R4}
 use Rattle.tables.specs.Rules.R5.{R5}
-use Rattle.tables.specs.Rules.R6.{Run, R6}
+use Rattle.tables.specs.Rules.R6.{R6}
 use Rattle.tables.specs.Rules.R7.{R7}
 use Rattle.tables.specs.Rules.R8.{R8}
 use Rattle.tables.specs.Rules.R9.{R9}
@@ -22,10 +22,11 @@ use Rattle.tables.proofs.BlockLaws.{block-of}
 use Rattle.tables.proofs.PointerLaws.{under-inside, under-set}
 use Rattle.tables.proofs.RoomLaws.{all-clear}
 use Rattle.tables.proofs.SameLaws.{blocks-same}
-use Rattle.allocation.proofs.TakenHeld.{files-R4, files-R5, files-tally, files-sectors, files-R9, files-under}
+use Rattle.allocation.proofs.FileSame.{file-same}
+use Rattle.allocation.proofs.ChangeLaws.{parent-under}
+use Rattle.allocation.proofs.TakenHeld.{type-kept, run-kept, files-R4, files-R5, files-tally, files-sectors, files-R9, files-under}
 use Rattle.files.specs.Release.{clearBlocks, recounted}
 use Rattle.files.specs.Freed.{Uncounted, Recounted}
-use Rattle.files.proofs.FileSame.{file-same}
 
 -- rules R2 to R9
 pub record Rules (v : View) : Type 0 where
@@ -100,21 +101,8 @@ module _ (v v' : View) (small : (s : ℕ) → v .bit s < 2) (u : Uncounted v) (h
 
   -- ---- runs
 
-  type-stays : (s : ℕ) → s < 1024 * (v .zones - 1) → 1024 ≤ s → v .bit s ≡ 1 → v' .zone (zoneOf s) .ztype ≡ v .zone (zoneOf s) .ztype
-  type-stays s l lo set =
-      let e : firstOf (zoneOf s) + s % 1024 ≡ s = omega arith in
-      ⊎-elim (λ r. absurd (omega (arith, set, ap (v .bit) e, r .1 (s % 1024) (omega arith)))) (λ r. r .1 .ztype) (zone-now (zoneOf s) (omega arith) (omega arith))
-
-  run-stays : (a c : ℕ) → Run v a c → ((s : ℕ) → a ≤ s → s < a + c → v .bit s ≡ 1) → Run v' a c
-  run-stays a c r set = record {
-    some = r .some;
-    few = r .few;
-    low = r .low;
-    high = rw (h .zones) (r .high);
-    typed = λ s l lo. rw (type-stays s (omega (arith, r .high)) (omega (arith, r .low)) (set s lo l)) (r .typed s l lo);
-    whole = λ z l lo t. (let l' : z < v .zones = rw (h .zones) at l in
-        ⊎-elim (λ o. absurd (omega (arith, t .low, o .0 .ztype))) (λ o. rw (o .1 .ztype) (r .whole z l' lo (o .0 .typed))) (zone-now z lo l'));
-  }
+  type-or-clear : (z : ℕ) → 2 ≤ z → z < v .zones → (v' .zone z .ztype ≡ v .zone z .ztype) ⊎ ZoneBits v z 0
+  type-or-clear z lo hi = ⊎-elim (λ r. inr (r .1)) (λ r. inl (r .1 .ztype)) (zone-now z lo hi)
 
   set-under : (i j s : ℕ) → Under v i j s → v .bit s ≡ 1
   set-under i j s = under-set v (u .r6) (u .r7) small s i j
@@ -125,7 +113,7 @@ module _ (v v' : View) (small : (s : ℕ) → v .bit s < 2) (u : Uncounted v) (h
       let o = u .r6 i (omega arith) lo in
       rw (h .files .table i lo hi) (record {
         first = o .first;
-        used = λ j l w. run-stays _ _ (o .used j l w) (λ s a c. set-under i j s (record { low = lo; high = hi; slot = l; from = a; to = c }));
+        used = λ j l w. run-kept v v' (h .zones) type-or-clear _ _ (o .used j l w) (λ s a c. set-under i j s (record { low = lo; high = hi; slot = l; from = a; to = c }));
         one = o .one;
         header = o .header;
       })
@@ -139,14 +127,14 @@ module _ (v v' : View) (small : (s : ℕ) → v .bit s < 2) (u : Uncounted v) (h
   -- ---- files
 
   under-type : (i j s : ℕ) → Under v i j s → v' .zone (zoneOf s) .ztype ≡ v .zone (zoneOf s) .ztype
-  under-type i j s w = let o = under-inside v (u .r6) (u .r7) small i j s w in type-stays s (o .1) (o .0) (set-under i j s w)
+  under-type i j s w = let o = under-inside v (u .r6) (u .r7) small i j s w in type-kept v v' (h .zones) type-or-clear s (o .1) (o .0) (set-under i j s w)
 
   now-R8 : R8 v'
   now-R8 p l lo word =
       let hi : p ≤ v .indexes = omega (arith, h .files .indexes) in
       let e = h .files .table p lo hi in
       let o : Parent v p = record { low = lo; high = hi; word = rw e at word } in
-      file-same v v' (u .r6) under-type p o e
+      file-same v v' under-type p (parent-under v (u .r6) p o) e
       (λ i j s of w. (let y = files-under (h .files) i j s w in (rw (h .files .table i (y .low) (y .high)) at of, y)))
       (files-sectors (h .files) p) (u .r8 p (omega arith) lo (o .word))
 

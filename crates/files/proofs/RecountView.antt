@@ -11,7 +11,6 @@ use lib.Dec.{leb}
 use borrow.Author.Tests.{leb-true, le-leb}
 use Rattle.field.specs.Kept.{Kept}
 use Rattle.field.proofs.Frames.{kept-refl, kept-trans, kept-wider}
-use Rattle.field.proofs.NumberLaws.{u16-kept, u32-kept}
 use Rattle.field.proofs.BitLaws.{bit-kept}
 use Rattle.field.proofs.Sums.{sum-same}
 use Rattle.tables.specs.declared.places.Places.{Places}
@@ -22,10 +21,10 @@ use Rattle.tables.specs.Room.{perZone}
 use Rattle.tables.specs.Sectors.{sectorAt}
 use Rattle.tables.specs.Views.{View, viewOf}
 use Rattle.tables.specs.Zones.{zoneAt}
-use Rattle.tables.proofs.FrameLaws.{table-kept}
 use Rattle.tables.proofs.ZoneEntryLaws.{zone-kept, kept-putZone, zone-put}
 use Rattle.allocation.specs.Steps.{SameFiles}
 use Rattle.allocation.specs.Lengthened.{Quiet}
+use Rattle.allocation.proofs.TableLaws.{files-between}
 use Rattle.files.specs.Release.{clearBlocks, isTyped, recounted, putEntry, recountZone, recountZones}
 use Rattle.files.specs.Freed.{Recounted}
 
@@ -102,21 +101,7 @@ module _ (p : Places) (b : List ℕ) (lay : Layout p (length b)) where
   n = p .zones - 2
 
   recount-files : SameFiles (viewOf p b) (viewOf p (recountZones p b n))
-  recount-files =
-      let k = kept-zones n in
-      record {
-        indexes = refl;
-        head = u32-kept 1050 k (inl (omega arith));
-        free = u32-kept 1036 k (inl (omega arith));
-        counts = record {
-          active = u32-kept 1028 k (inl (omega arith));
-          deleted = u32-kept 1032 k (inl (omega arith));
-          system = u16-kept 1040 k (inl (omega arith));
-          directory = u16-kept 1042 k (inl (omega arith));
-          flag = u16-kept 1054 k (inl (omega arith));
-        };
-        table = λ i lo hi. table-kept p i k (inr (omega arith));
-      }
+  recount-files = files-between p (kept-zones n) (omega arith) (omega arith)
 
   first-stays : zoneAt p (recountZones p b n) 1 ≡ zoneAt p b 1
   first-stays = zone-kept p 1 (kept-zones n) (inl (omega arith))

@@ -2,23 +2,17 @@
 use mathlib.Core.Path.{_≡_, sym, ap, _∙_}
 use mathlib.Core.List.{List}
 use Prim.Native.Nat.{ℕ}
-use native.Mathlib.Omega.{arith}
 use Rattle.tables.specs.Kinds.{zoneOf}
 use Rattle.tables.specs.Indexes.{startOf, fileOf}
-use Rattle.tables.specs.Views.{View, Parent, Under}
-use Rattle.tables.specs.Rules.R6.{R6}
+use Rattle.tables.specs.Views.{View, Under}
 use Rattle.tables.specs.Rules.R8.{fileSectors, fileType, OneType, File}
-use Rattle.allocation.proofs.ChangeLaws.{parent-slots, first-under}
 
-module _ (v v' : View) (r6 : R6 v) (types : (i j s : ℕ) → Under v i j s → v' .zone (zoneOf s) .ztype ≡ v .zone (zoneOf s) .ztype)
-    (p : ℕ) (parent : Parent v p) (same : v' .table p ≡ v .table p)
+module _ (v v' : View) (types : (i j s : ℕ) → Under v i j s → v' .zone (zoneOf s) .ztype ≡ v .zone (zoneOf s) .ztype)
+    (p : ℕ) (first : Under v p 0 (startOf p (v .table p) 0)) (same : v' .table p ≡ v .table p)
     (under : (i j s : ℕ) → fileOf i (v' .table i) ≡ p → Under v' i j s → (fileOf i (v .table i) ≡ p) × Under v i j s) where
   type-same : fileType v' p ≡ fileType v p
   unfolding fileType
-  type-same =
-      let shape = r6 p (omega (arith, parent .high)) (parent .low) in
-      let run = shape .used 0 (omega (arith, parent-slots v p parent)) (shape .one (parent .word)) in
-      ap (λ (t : List ℕ). v' .zone (zoneOf (startOf p t 0)) .ztype) same ∙ types p 0 _ (first-under v p parent run)
+  type-same = ap (λ (t : List ℕ). v' .zone (zoneOf (startOf p t 0)) .ztype) same ∙ types p 0 _ first
 
   one-same : OneType v p → OneType v' p
   one-same all i j s of u = let w = under i j s of u in types i j s (w .1) ∙ all i j s (w .0) (w .1) ∙ sym type-same

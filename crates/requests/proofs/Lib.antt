@@ -30,4 +30,5 @@ pub mod StepSound
 pub mod StepFrame
 pub mod HistoryLaws
 pub mod AlikeLaws
+pub mod ReadBack
 pub mod DemandThree

@@ -197,7 +197,7 @@ module _ (p : Places) (b : List ℕ) (f long : ℕ) (date : List ℕ) (lay : Lay
   unfolding putLength
   length-stamped = stamped p b f date lay lo hi six _ 40 4 (omega arith) (kept-putU32 (over b (tablePlace p f + 34) date) (tablePlace p f + 40) long)
 
-  put-table : tableAt p (putLength p b f long date) f ≡ putU32 (over (tableAt p b f) 34 date) 40 long
+  pub put-table : tableAt p (putLength p b f long date) f ≡ putU32 (over (tableAt p b f) 34 date) 40 long
   unfolding putLength
   put-table =
       let x = over b (tablePlace p f + 34) date in
@@ -248,7 +248,7 @@ module _ (b : List ℕ) (id long : ℕ) (date : List ℕ) (g : Good b (placesOf 
     ready : Ready p id start (inOrder counts)
     ready = ready-grow p b id counts (lack-provided b id long g room l) parent
 
-    lengthened : Lengthened p id start (inTurn (addBlock p id) (inOrder counts) start) (inOrder counts)
+    pub lengthened : Lengthened p id start (inTurn (addBlock p id) (inOrder counts) start) (inOrder counts)
     lengthened =
         let w = g .lawful in
         adds-held p id (inOrder counts) start ready

@@ -1,0 +1,219 @@
+-- A read after a write gives the bytes back, by the promises of both. Assumes nothing.
+use mathlib.Core.Path.{_≡_, refl, sym, ap, _∙_}
+use mathlib.Core.Logic.{_≢_, inr}
+use mathlib.Core.Bool.{Bool, true}
+use mathlib.Core.List.{List, []}
+use Prim.Native.Nat.{ℕ, _+_, _-_, _*_, _/_, _%_, _≤_, _<_}
+use native.Mathlib.Decide.{ℕ-discrete, decLt}
+use native.Mathlib.Omega.{arith}
+use lib.ListN.{getD, length, take}
+use borrow.Author.Tests.{lt-ltb, le-ltb}
+use Rattle.field.specs.Parts.{over}
+use Rattle.field.proofs.NumberLaws.{u16-kept, kept-putU32}
+use Rattle.tables.specs.declared.places.Places.{Places}
+use Rattle.tables.specs.Books.{Good, bookTests}
+use Rattle.tables.specs.Gates.{Gate}
+use Rattle.tables.specs.Indexes.{tableAt, wordOf, lengthOf, attributeOf}
+use Rattle.tables.specs.Lawful.{Lawful}
+use Rattle.tables.specs.Places.{placesOf, Layout}
+use Rattle.tables.specs.Rules.R8.{variableBit}
+use Rattle.tables.specs.Rules.R9.{deletedBit}
+use Rattle.tables.specs.Sector1.{flagOf}
+use Rattle.tables.specs.Views.{viewOf, Parent}
+use Rattle.tables.proofs.GateLaws.{gate-rest, gate-head, gate-front}
+use Rattle.tables.proofs.IndexLaws.{length-table}
+use Rattle.allocation.specs.Files.{putLength, grown}
+use Rattle.allocation.proofs.HeldLawful.{table-fields, fields-front}
+use Rattle.files.specs.Moves.{filled, fetched, Movable}
+use Rattle.files.proofs.MoveLaws.{read-back}
+use Rattle.requests.specs.declared.amount.Amount.{Amount}
+use Rattle.requests.specs.declared.answer.Answer.{Answer}
+use Rattle.requests.specs.declared.answer.Answer.the-variants.{Done}
+use Rattle.requests.specs.Answers.{numberOf, useTests}
+use Rattle.requests.specs.Body.{bodyTests}
+use Rattle.requests.specs.Create.{argumentTests}
+use Rattle.requests.specs.Format.{sizeOf}
+use Rattle.requests.specs.Grow.{growCounts, lackTests, grownTo}
+use Rattle.requests.specs.Named.{fileBytes, namedTests, Unprotected}
+use Rattle.requests.specs.Read.{wholeSectors, endOf, MoveAllowed, readTests, ReadOut}
+use Rattle.requests.specs.Write.{WriteAllowed, askedLength, moveTests, writeTests, settle, writtenBooks, writtenBody, Wrote}
+use Rattle.requests.proofs.MountLaws.{use-fine}
+use Rattle.requests.proofs.CreateLaws.{argument-fine}
+use Rattle.requests.proofs.NamedLaws.{named-fine, usable-active, usable-fine, body-goes, body-usable}
+use Rattle.requests.proofs.StampLaws.{table-dated, same-counted, put-fields}
+use Rattle.requests.proofs.ReadLaws.{amount-wanted, read-fine, read-done, read-one}
+use Rattle.requests.proofs.WriteLaws.{asked-variable, Grown, grown-is, settle-is, put-table, lengthened, write-allows, write-good, write-parent, write-within, write-lack}
+use Rattle.requests.proofs.WriteKeeps.{some-written, grown-good, settles, written-flag, wrote-asks, wrote-keeps}
+
+-- ---- a file that grows keeps its attribute
+
+-- books c have b's length and the first 58 bytes of f's table, then the byte length is written
+length-attribute : (p : Places) (b c : List ℕ) (f long : ℕ) (date : List ℕ) → Layout p (length b) → length c ≡ length b → ((o : ℕ) → o < 58 → getD (tableAt p c f) o 0 ≡ getD (tableAt p b f) o 0)
+    → 1 ≤ f → f ≤ p .indexes → length date ≡ 6 → attributeOf (tableAt p (putLength p c f long date) f) ≡ attributeOf (tableAt p b f)
+length-attribute p b c f long date lay len front lo hi six =
+    let lay-c : Layout p (length c) = rw len lay in
+    ap attributeOf (put-table p c f long date lay-c lo hi six) ∙ u16-kept 44 (kept-putU32 (over (tableAt p c f) 34 date) 40 long) (inr (omega arith))
+    ∙ u16-kept 44 (table-dated p c f date lay-c lo hi six) (inr (omega arith))
+    ∙ fields-front (length-table p c f lay-c lo hi) front (table-fields (tableAt p b f) (length-table p b f lay lo hi)) .attribute'
+
+module _ (b : List ℕ) (id long : ℕ) (date : List ℕ) (g : Good b (placesOf b)) (parent : Parent (viewOf (placesOf b) b) id) (room : Gate (lackTests b id long) 0) (six : length date ≡ 6) where
+  abbrev t : List ℕ
+  t = fileBytes b id
+
+  longer-attribute : lengthOf t < long → attributeOf (tableAt (placesOf b) (grown (placesOf b) b id (growCounts b id long) long date) id) ≡ attributeOf t
+  unfolding grown
+  longer-attribute l =
+      let h = lengthened b id long date g parent room six l in
+      length-attribute (placesOf b) b _ id long date (g .layout) (h .quiet .len) (h .front) (parent .low) (parent .high) six
+
+  grown-attribute : attributeOf (tableAt (placesOf b) (grownTo b id long date) id) ≡ attributeOf t
+  unfolding grownTo
+  grown-attribute = elim (decLt (lengthOf t) long) [
+    | yes l ↦ rw (lt-ltb (lengthOf t) long l) (longer-attribute l)
+    | no nl ↦ rw (le-ltb (lengthOf t) long (omega arith)) refl
+  ]
+
+-- ---- the write, done, for some bytes
+
+module _ (b body : List ℕ) (id : ℕ) (position long : Amount) (x : Bool) (input date : List ℕ) (r : Answer) (b' body' : List ℕ)
+    (w : Wrote b body id position long x input date r b' body') (done : numberOf r ≡ 0) (some : wholeSectors (sizeOf long) ≢ 0) where
+  abbrev at : ℕ
+  at = sizeOf position
+
+  abbrev n : ℕ
+  n = wholeSectors (sizeOf long)
+
+  abbrev p : Places
+  p = placesOf b
+
+  abbrev a : ℕ
+  a = attributeOf (fileBytes b id)
+
+  abbrev b₁ : List ℕ
+  b₁ = grownTo b id (askedLength b id at n) date
+
+  gate : Gate (writeTests b body id position long (length input) date) 0
+  gate = rw done at (w .number)
+
+  good : Good b p
+  good = write-good b body id position long (length input) date 0 gate refl
+
+  parent : Parent (viewOf p b) id
+  parent = write-parent b body id position long (length input) date 0 gate refl
+
+  allowed : WriteAllowed position long (length input) date
+  allowed = write-allows b body id position long (length input) date 0 gate refl
+
+  lack : Gate (lackTests b id (askedLength b id at n)) 0
+  lack = write-lack b body id position long (length input) date 0 gate refl
+
+  -- the flag is not 0
+  flag : flagOf b ≢ 0
+  unfolding writeTests argumentTests useTests
+  flag =
+      let front = gate-front (useTests b) _ (gate-front (argumentTests b (WriteAllowed position long (length input) date)) _ gate) in
+      gate-head 5 (flagOf b ≢ 0) [] (gate-rest (bookTests b) _ front) .0
+
+  -- the file is active
+  active : deletedBit a ≡ 0
+  unfolding writeTests moveTests
+  active =
+      let rest = gate-rest (argumentTests b (WriteAllowed position long (length input) date)) _ gate in
+      usable-active 4 b id (body-usable 4 b body id (gate-front (bodyTests 4 b body id) _ rest) .1) .1
+
+  longer : Grown b id (askedLength b id at n) b₁
+  longer = grown-is b id (askedLength b id at n) date good parent lack (allowed .date' .long)
+
+  books-are : b' ≡ writtenBooks b id at n date
+  books-are = rw done at (w .books)
+
+  books-settled : b' ≡ settle b₁ id date
+  books-settled = books-are ∙ some-written b id at n date some
+
+  kept : Good b' p × (length body' ≡ length body)
+  kept = wrote-keeps b body id position long x input date r b' body' p good w
+
+  same : p ≡ placesOf b'
+  same = kept .0 .places
+
+  asks : Layout p (length b') × (Lawful p b' × Movable (viewOf p b') id (at / 1024) (n / 1024) (length input) (length body))
+  asks = wrote-asks b body id position long (length input) date 0 gate refl at (sizeOf long) n refl refl refl b' books-are p same some
+
+  moves : Movable (viewOf p b') id (at / 1024) (n / 1024) (length input) (length body)
+  moves = asks .1 .1
+
+  -- weight 2 is cleared
+  attribute' : attributeOf (tableAt p b' id) ≡ a - a / 2 % 2 * 2
+  attribute' =
+      let six = allowed .date' .long in
+      let g₁ = grown-good b id at n date good parent lack (allowed .date') in
+      let a₁ = attributeOf (tableAt p b₁ id) in
+      let put = settle-is b₁ p (g₁ .places) id (tableAt p b₁ id) a₁ date _ refl refl refl in
+      ap (λ (c : List ℕ). attributeOf (tableAt p c id)) (books-settled ∙ sym put)
+      ∙ put-fields p b₁ b₁ id (a₁ - a₁ / 2 % 2 * 2) date (g₁ .layout) (same-counted b₁) (parent .low) (parent .high) six .attribute'
+      ∙ ap (λ (y : ℕ). y - y / 2 % 2 * 2) (grown-attribute b id (askedLength b id at n) date good parent lack six)
+
+  length' : lengthOf (fileBytes b' id) ≡ lengthOf (tableAt p b₁ id)
+  length' =
+      ap (λ (q : Places). lengthOf (tableAt q b' id)) (sym same) ∙ ap (λ (c : List ℕ). lengthOf (tableAt p c id)) books-settled
+      ∙ settles b id at n date good parent lack (allowed .date') .long
+
+  -- the bytes written lie before the end
+  end' : at + n ≤ endOf b' id
+  end' =
+      let within = write-within b body id position long (length input) date 0 gate refl in
+      elim (ℕ-discrete (variableBit a) 1) [
+        | yes e ↦ omega (arith, asked-variable b p id at n good (fileBytes b id) refl a refl some e, length', longer .long')
+        | no nv ↦ omega (arith, within .fixed (omega arith), length', longer .more)
+      ]
+
+  body-is : body' ≡ filled (viewOf p b') id (at / 1024) x input body (n / 1024)
+  unfolding writtenBody
+  body-is =
+      let here : body' ≡ filled (viewOf (placesOf b') b') id (at / 1024) x input body (n / 1024) = rw books-are (rw done at (w .body'')) in
+      here ∙ ap (λ (q : Places). filled (viewOf q b') id (at / 1024) x input body (n / 1024)) (sym same)
+
+  used : Gate (useTests b') 0
+  used = use-fine b' p (flagOf b') (kept .0) refl (λ e. flag (sym (written-flag b id at n date good parent lack (allowed .date')) ∙ sym (ap flagOf books-are) ∙ e))
+
+  -- ---- the read
+
+  module _ (readable : Unprotected 8 b id) (out : List ℕ) (fits : wholeSectors (sizeOf long) ≤ length out) where
+    abbrev t' : List ℕ
+    t' = tableAt p b' id
+
+    named : Gate (namedTests b' id) 0
+    named =
+        let m = moves .parent in
+        named-fine b' p id (kept .0) t' refl (wordOf t') refl (m .word) (m .low) (m .high) (attributeOf t') refl (omega (arith, attribute', active))
+
+    usable : Gate (bodyTests 8 b' body' id) 0
+    usable =
+        let free : attributeOf t' / 8 ≡ a / 8 = omega (arith, attribute') in
+        body-goes 8 b' body' id p (kept .0) 0 (kept .1 ∙ moves .body') (usable-fine 8 b' id 0 named refl p (kept .0) t' refl (attributeOf t') refl (ap (λ (k : ℕ). k % 2) free ∙ readable))
+
+    number : Gate (readTests b' body' id position long (length out)) 0
+    number =
+        let m = allowed .move in
+        let fine : MoveAllowed position long (length out) = record { position' = m .position'; sector = m .sector; long' = m .long'; buffer = fits } in
+        read-fine b' body' id position long (length out) true 0 fine (argument-fine b' true 0 used refl refl) refl 0 usable refl at (endOf b' id) refl refl (omega (arith, end'))
+
+    reads : ReadOut b' body' id position long x out (Done n) (fetched (viewOf p b') id (at / 1024) x body' out (n / 1024))
+    reads =
+        read-done b' body' id position long x out 0 at (sizeOf long) n p _ number refl same refl refl
+        (amount-wanted b' id at (sizeOf long) n (endOf b' id) refl refl (omega (arith, end'))) refl
+
+    back : take n (fetched (viewOf p b') id (at / 1024) x body' out (n / 1024)) ≡ take n input
+    back =
+        let whole : 1024 * (n / 1024) ≡ n = omega arith in
+        rw (← body-is, whole) at (read-back p b' (asks .0) (asks .1 .0) id (at / 1024) (n / 1024) x input body out moves (omega arith))
+
+-- a write that is done, of some bytes, and then a read of the same file, position, length and exchange: it is done, moves as many bytes,
+-- and they are the input's
+pub read-after-write : (b body : List ℕ) (id : ℕ) (position long : Amount) (x : Bool) (input date : List ℕ) (r : Answer) (b' body' : List ℕ)
+    → Wrote b body id position long x input date r b' body' → numberOf r ≡ 0 → wholeSectors (sizeOf long) ≢ 0 → Unprotected 8 b id
+    → (out : List ℕ) → wholeSectors (sizeOf long) ≤ length out → (s : Answer) (out' : List ℕ) → ReadOut b' body' id position long x out s out'
+    → (s ≡ Done (wholeSectors (sizeOf long))) × (take (wholeSectors (sizeOf long)) out' ≡ take (wholeSectors (sizeOf long)) input)
+read-after-write b body id position long x input date r b' body' w done some readable out fits s out' h =
+    let e = read-one b' body' id position long x out s (Done (wholeSectors (sizeOf long))) out' _ h (reads b body id position long x input date r b' body' w done some readable out fits) in
+    (e .0, ap (take (wholeSectors (sizeOf long))) (e .1) ∙ back b body id position long x input date r b' body' w done some readable out fits)

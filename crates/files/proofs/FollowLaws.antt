@@ -17,7 +17,7 @@ use Rattle.tables.proofs.ChoiceLaws.{sum-mono}
 use Rattle.tables.proofs.CountLaws.{only-eq, only-ne}
 use Rattle.allocation.proofs.ChangeLaws.{member-begins, member-file}
 use Rattle.files.specs.declared.spot.Spot.{Spot}
-use Rattle.files.specs.Spots.{spotAt, startAt, countAt, moreAt, onward, spotOf, kthSector}
+use Rattle.files.specs.Spots.{spotAt, spotStart, spotCount, moreAt, onward, spotOf, kthSector}
 use Rattle.files.specs.Unchanged.{SamePlaces}
 use Rattle.files.proofs.SpotLaws.{Reached, onward-under, onward-run, run-more, run-further, more-is, more-not, spot-reached}
 
@@ -105,16 +105,16 @@ module _ (v v' : View) (f : ℕ) (same : v' .indexes ≡ v .indexes) (h : FileFo
           let b = rw (r .here) at (member-begins v few f (r5 .long f) parent (r5 .chain f parent) (r .place) (omega (arith, r .within))) in
           h .each i (b .1 .low) (b .1 .high) (rw (r .here) at (member-file v few f (r5 .long f) parent (r5 .chain f parent) (r .place) (omega (arith, r .within))))
 
-      start-same : startAt v' c ≡ startAt v c
+      start-same : spotStart v' c ≡ spotStart v c
       start-same = spot-follows .start (c .slot) (r .slot') (r .used)
 
       -- the spot is the last sector under its pointer, and not the file's last
-      module _ (end : countAt v c ≤ c .off + 1) (more : Reached v f (r5 .long f) (suc k) (onward v c)) where
+      module _ (end : spotCount v c ≤ c .off + 1) (more : Reached v f (r5 .long f) (suc k) (onward v c)) where
         -- the next pointer is there and is used as before
         to-slot : moreAt v c ≡ true → onward v' c ≡ onward v c
         to-slot e =
             let m = more-is v c e in
-            let n : countAt v' c ≡ countAt v c = spot-follows .before (c .slot) (m .0) (m .1) in
+            let n : spotCount v' c ≡ spotCount v c = spot-follows .before (c .slot) (m .0) (m .1) in
             onward-run v' c (omega arith) ∙ run-more v' c (now (moreAt v' c) refl) ∙ sym (run-more v c e) ∙ sym (onward-run v c end)
           where
             now : (t : Bool) → moreAt v' c ≡ t → moreAt v' c ≡ true
@@ -126,7 +126,7 @@ module _ (v v' : View) (f : ℕ) (same : v' .indexes ≡ v .indexes) (h : FileFo
         -- there is none; a table follows, so nothing changes in this one
         to-table : moreAt v c ≡ false → onward v' c ≡ onward v c
         to-table e =
-            let n : countAt v' c ≡ countAt v c = spot-follows .inner linked (c .slot) (r .slot') .1 in
+            let n : spotCount v' c ≡ spotCount v c = spot-follows .inner linked (c .slot) (r .slot') .1 in
             onward-run v' c (omega arith) ∙ run-further v' c (now (moreAt v' c) refl) ∙ ap (λ (x : ℕ). spotAt x 0) (spot-follows .link linked) ∙ sym old
           where
             old : onward v c ≡ spotAt (next v i) 0
@@ -150,7 +150,7 @@ module _ (v v' : View) (f : ℕ) (same : v' .indexes ≡ v .indexes) (h : FileFo
         to-run false e = to-table e
 
       onward-same : Reached v f (r5 .long f) (suc k) (onward v c) → onward v' c ≡ onward v c
-      onward-same more = elim (decLt (c .off + 1) (countAt v c)) [
+      onward-same more = elim (decLt (c .off + 1) (spotCount v c)) [
         | yes l ↦ onward-under v' c (omega (arith, spot-follows .count (c .slot) (r .slot'))) ∙ sym (onward-under v c l)
         | no l ↦ to-run (omega arith) more (moreAt v c) refl
       ]

@@ -18,7 +18,7 @@ use Rattle.tables.specs.Places.{Layout}
 use Rattle.tables.specs.Lawful.{Lawful}
 use Rattle.tables.specs.Views.{viewOf}
 use Rattle.files.specs.Spots.{kthSector}
-use Rattle.files.specs.Moves.{exchanged, moved, bodyPlace, sectorBytes, piece, filled, fetched, Movable}
+use Rattle.files.specs.Moves.{exchanged, moved, bodyPlace, sectorContent, piece, filled, fetched, Movable}
 use Rattle.files.proofs.SpotLaws.{kth-inside}
 use Rattle.files.proofs.PlaceLaws.{place-one}
 
@@ -156,14 +156,14 @@ module _ (p : Places) (b : List ℕ) (lay : Layout p (length b)) (lawful : Lawfu
   length-filled = ap length (filled-laid n) ∙ length-laid place _ body n whole-in fits-in n (omega arith)
 
   -- the i-th written sector holds the i-th 1,024 bytes of the input, exchanged if asked
-  pub filled-in : (i : ℕ) → i < n → sectorBytes (filled (viewOf p b) f k x input body n) (kthSector (viewOf p b) f (k + i)) ≡ moved x (piece input i)
+  pub filled-in : (i : ℕ) → i < n → sectorContent (filled (viewOf p b) f k x input body n) (kthSector (viewOf p b) f (k + i)) ≡ moved x (piece input i)
   filled-in i l =
       ap (λ (y : List ℕ). take 1024 (drop (1024 * place i) y)) (filled-laid n)
       ∙ laid-in place (λ i. moved x (piece input i)) body n whole-in fits-in n (omega arith) (sector-once p b lay lawful f k n (length input) (length body) m) i l
 
   -- any other sector's bytes are as they were
   pub filled-out : (s : ℕ) → 1024 ≤ s → s < 1024 * (p .zones - 1) → ((i : ℕ) → i < n → kthSector (viewOf p b) f (k + i) ≢ s)
-      → sectorBytes (filled (viewOf p b) f k x input body n) s ≡ sectorBytes body s
+      → sectorContent (filled (viewOf p b) f k x input body n) s ≡ sectorContent body s
   filled-out s low high out =
       ap (λ (y : List ℕ). take 1024 (drop (1024 * (s - 1024)) y)) (filled-laid n)
       ∙ laid-out place (λ i. moved x (piece input i)) body n whole-in fits-in n (omega arith) (s - 1024)
@@ -173,11 +173,11 @@ module _ (p : Places) (b : List ℕ) (lay : Layout p (length b)) (lawful : Lawfu
 module _ (p : Places) (b : List ℕ) (lay : Layout p (length b)) (lawful : Lawful p b) (f k n : ℕ) (x : Bool) (body out : List ℕ)
     (m : Movable (viewOf p b) f k n (length out) (length body)) where
   abbrev taken : ℕ → List ℕ
-  taken i = moved x (sectorBytes body (kthSector (viewOf p b) f (k + i)))
+  taken i = moved x (sectorContent body (kthSector (viewOf p b) f (k + i)))
 
   whole-out : (i : ℕ) → i < n → length (taken i) ≡ 1024
   whole-out i l =
-      length-moved x (sectorBytes body (kthSector (viewOf p b) f (k + i)))
+      length-moved x (sectorContent body (kthSector (viewOf p b) f (k + i)))
       ∙ length-take-le 1024 (drop (bodyPlace (kthSector (viewOf p b) f (k + i))) body)
       (omega (arith, sector-fits p b lay lawful f k n (length out) (length body) m i l, length-drop (bodyPlace (kthSector (viewOf p b) f (k + i))) body))
 
@@ -192,7 +192,7 @@ module _ (p : Places) (b : List ℕ) (lay : Layout p (length b)) (lawful : Lawfu
   pub length-fetched : length (fetched (viewOf p b) f k x body out n) ≡ length out
   length-fetched = ap length (fetched-laid n) ∙ length-laid (λ i. i) taken out n whole-out fits-out n (omega arith)
 
-  pub fetched-in : (i : ℕ) → i < n → piece (fetched (viewOf p b) f k x body out n) i ≡ moved x (sectorBytes body (kthSector (viewOf p b) f (k + i)))
+  pub fetched-in : (i : ℕ) → i < n → piece (fetched (viewOf p b) f k x body out n) i ≡ moved x (sectorContent body (kthSector (viewOf p b) f (k + i)))
   fetched-in i l =
       ap (λ (y : List ℕ). piece y i) (fetched-laid n) ∙ laid-in (λ i. i) taken out n whole-out fits-out n (omega arith) (λ i l j h e. e) i l
 

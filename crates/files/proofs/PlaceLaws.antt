@@ -23,7 +23,7 @@ use Rattle.tables.proofs.PointerLaws.{one-pointer}
 use Rattle.allocation.proofs.LastLaws.{different-le}
 use Rattle.allocation.proofs.ChangeLaws.{parent-file, child-file, member-file}
 use Rattle.files.specs.declared.spot.Spot.{Spot}
-use Rattle.files.specs.Spots.{startAt, spotOf, kthSector}
+use Rattle.files.specs.Spots.{spotStart, spotOf, kthSector}
 use Rattle.files.proofs.FileTables.{tables-in, file-member, sectors-chain}
 use Rattle.files.proofs.SpotLaws.{Reached, reached, kth-inside}
 
@@ -84,15 +84,15 @@ module _ (v : View) (f m k : ℕ) (c d : Spot) (r : Reached v f m k c) (q : Reac
       part-one (counts v (d .table .0)) (sumTo (d .slot) (counts v (d .table .0)) + d .off) (c .slot) (d .slot)
       (omega (arith, same-rest)) (omega (arith, same-rest, r .off')) (omega arith) (omega (arith, q .off'))
 
-  same-sector : startAt v c + c .off ≡ startAt v d + d .off
+  same-sector : spotStart v c + c .off ≡ spotStart v d + d .off
   same-sector =
       let a : sumTo (c .slot) (counts v (d .table .0)) ≡ sumTo (d .slot) (counts v (d .table .0)) = ap (λ (n : ℕ). sumTo n (counts v (d .table .0))) same-slot in
-      let e : startAt v c ≡ startAt v d = ap₂ (λ (i j : ℕ). startOf i (v .table i) j) same-table same-slot in
+      let e : spotStart v c ≡ spotStart v d = ap₂ (λ (i j : ℕ). startOf i (v .table i) j) same-table same-slot in
       omega (arith, same-rest)
 
 module _ (v : View) (few : v .indexes ≤ 4096) (f m : ℕ) (parent : Parent v f) (chain : FileChain v f m) where
   module _ (k : ℕ) (c : Spot) (r : Reached v f m k c) where
-    reached-under : Under v (c .table .0) (c .slot) (startAt v c + c .off)
+    reached-under : Under v (c .table .0) (c .slot) (spotStart v c + c .off)
     reached-under =
         let is = rw (r .here) at (tables-in v f m parent chain (r .place) (omega (arith, r .within))) in
         record { low = is .0; high = is .1; slot = r .slot'; from = omega arith; to = omega (arith, r .off') }
@@ -101,13 +101,13 @@ module _ (v : View) (few : v .indexes ≤ 4096) (f m : ℕ) (parent : Parent v f
     reached-file = rw (r .here) at (member-file v few f m parent chain (r .place) (omega (arith, r .within)))
 
   -- a place has one number
-  number-one : (k l : ℕ) (c d : Spot) → Reached v f m k c → Reached v f m l d → c .table .0 ≡ d .table .0 → c .slot ≡ d .slot → startAt v c + c .off ≡ startAt v d + d .off → k ≡ l
+  number-one : (k l : ℕ) (c d : Spot) → Reached v f m k c → Reached v f m l d → c .table .0 ≡ d .table .0 → c .slot ≡ d .slot → spotStart v c + c .off ≡ spotStart v d + d .off → k ≡ l
   number-one k l c d r q et es e =
       let ep : r .place ≡ q .place
       = walk-place (next v) f (suc m) (chain .ends) (λ n ln. tables-in v f m parent chain n ln .0) (q .place) (omega (arith, q .within)) (r .place) (omega (arith, r .within)) (r .here ∙ et ∙ sym (q .here)) in
       let before : sumTo (r .place) (chained v f) ≡ sumTo (q .place) (chained v f) = ap (λ (n : ℕ). sumTo n (chained v f)) ep in
       let within : sumTo (c .slot) (counts v (c .table .0)) ≡ sumTo (d .slot) (counts v (d .table .0)) = ap₂ (λ (i n : ℕ). sumTo n (counts v i)) et es in
-      let start : startAt v c ≡ startAt v d = ap₂ (λ (i j : ℕ). startOf i (v .table i) j) et es in
+      let start : spotStart v c ≡ spotStart v d = ap₂ (λ (i j : ℕ). startOf i (v .table i) j) et es in
       omega (arith, r .number, q .number)
 
 -- what lies under a pointer is of a file
@@ -120,7 +120,7 @@ under-parent v r4 r5 few i j s u =
     begins : (w : ℕ) → wordOf (v .table i) ≡ w → Begins v i w
     begins w e = record { low = u .low; high = u .high; word = e }
 
-kth-at : (v : View) (f k : ℕ) → kthSector v f k ≡ startAt v (spotOf v f k) + spotOf v f k .off
+kth-at : (v : View) (f k : ℕ) → kthSector v f k ≡ spotStart v (spotOf v f k) + spotOf v f k .off
 unfolding kthSector
 kth-at v f k = refl
 
@@ -150,8 +150,8 @@ module _ (p : Places) (b : List ℕ) (lay : Layout p (length b)) (lawful : Lawfu
       let m = lawful .r5 .long f in
       let r = reached p b lay lawful f h k lk in
       let q = reached p b lay lawful f h l ll in
-      let same : startAt v c + c .off ≡ startAt v d + d .off = sym (kth-at v f k) ∙ e ∙ kth-at v f l in
-      let o = apart (startAt v d + d .off) (c .table .0) (c .slot) (d .table .0) (d .slot) (rw same at (reached-under v (lay .few) f m h chain k c r)) (reached-under v (lay .few) f m h chain l d q) in
+      let same : spotStart v c + c .off ≡ spotStart v d + d .off = sym (kth-at v f k) ∙ e ∙ kth-at v f l in
+      let o = apart (spotStart v d + d .off) (c .table .0) (c .slot) (d .table .0) (d .slot) (rw same at (reached-under v (lay .few) f m h chain k c r)) (reached-under v (lay .few) f m h chain l d q) in
       number-one v (lay .few) f m h chain k l c d r q (o .0) (o .1) same
 
   pub place-one : (f g k l : ℕ) → Parent (viewOf p b) f → Parent (viewOf p b) g → k < fileSectors (viewOf p b) f → l < fileSectors (viewOf p b) g

@@ -16,8 +16,8 @@ use Rattle.tables.specs.Places.{Layout}
 use Rattle.tables.specs.Lawful.{Lawful}
 use Rattle.tables.specs.Views.{View, viewOf}
 use Rattle.files.specs.declared.spot.Spot.{Spot}
-use Rattle.files.specs.Spots.{startAt, onward, spotOf, kthSector, OnSector}
-use Rattle.files.specs.Moves.{exchanged, moved, bodyPlace, sectorBytes, filled, fetched, Movable}
+use Rattle.files.specs.Spots.{spotStart, onward, spotOf, kthSector, OnSector}
+use Rattle.files.specs.Moves.{exchanged, moved, bodyPlace, sectorContent, filled, fetched, Movable}
 use Rattle.files.proofs.SpotLaws.{spot-next, spot-on}
 use Rattle.files.proofs.MoveLaws.{length-exchanged, length-moved, length-piece, sector-inside, sector-fits}
 
@@ -65,7 +65,7 @@ move-plain x d₀ d s e h l m = rw e (h ∙ over-all d₀ s (m ∙ sym l))
 -- ---- a sector in the body
 
 pub body-part : (body : List ℕ) (s a : ℕ) → a ≡ bodyPlace s → 1024 ≤ s → 1024 * (s - 1023) ≤ length body
-    → (take (a + 1024 - a) (drop a body) ≡ sectorBytes body s) × (length (take (a + 1024 - a) (drop a body)) ≡ 1024)
+    → (take (a + 1024 - a) (drop a body) ≡ sectorContent body s) × (length (take (a + 1024 - a) (drop a body)) ≡ 1024)
 body-part body s a e low high =
     rw add-sub-cancel-left (ap (λ (n : ℕ). take 1024 (drop n body)) e, length-take-le 1024 (drop a body) (omega (arith, length-drop a body)))
 
@@ -79,9 +79,9 @@ put-over a e xs ys h k =
 -- ---- the loops
 
 -- the spot's sector is the file's
-spot-sector : (v : View) (f j : ℕ) (c : Spot) (s : ℕ) → c ≡ spotOf v f j → s ≡ startAt v c + c .off → s ≡ kthSector v f j
+spot-sector : (v : View) (f j : ℕ) (c : Spot) (s : ℕ) → c ≡ spotOf v f j → s ≡ spotStart v c + c .off → s ≡ kthSector v f j
 unfolding kthSector
-spot-sector v f j c s e h = h ∙ ap (λ (d : Spot). startAt v d + d .off) e
+spot-sector v f j c s e h = h ∙ ap (λ (d : Spot). spotStart v d + d .off) e
 
 pub spot-more : (v : View) (f k i : ℕ) (c d : Spot) → c ≡ spotOf v f (k + i) → d ≡ onward v c → d ≡ spotOf v f (k + (i + 1))
 spot-more v f k i c d e h =
@@ -92,7 +92,7 @@ module _ (p : Places) (b : List ℕ) (lay : Layout p (length b)) (lawful : Lawfu
   pub spot-here : OnSector (viewOf p b) c
   spot-here = subst (OnSector (viewOf p b)) (sym at) (spot-on p b lay lawful f (m .parent) (k + i) (omega (arith, m .within)))
 
-  pub sector-here : (s : ℕ) → s ≡ startAt (viewOf p b) c + c .off → (1024 ≤ s) × (1024 * (s - 1023) ≤ body)
+  pub sector-here : (s : ℕ) → s ≡ spotStart (viewOf p b) c + c .off → (1024 ≤ s) × (1024 * (s - 1023) ≤ body)
   sector-here s h =
       let e = spot-sector (viewOf p b) f (k + i) c s at h in
       let low = sector-inside p b lay lawful f k n room body m i l in
@@ -101,7 +101,7 @@ module _ (p : Places) (b : List ℕ) (lay : Layout p (length b)) (lawful : Lawfu
 
 -- a turn that writes: the input's next sector is laid over the body
 module _ (v : View) (f k n : ℕ) (x : Bool) (input body₀ body last : List ℕ) (i : ℕ) (c : Spot) (s a : ℕ) where
-  pub write-more : 1024 * n ≤ length input → i < n → body ≡ filled v f k x input body₀ i → c ≡ spotOf v f (k + i) → s ≡ startAt v c + c .off → a ≡ bodyPlace s
+  pub write-more : 1024 * n ≤ length input → i < n → body ≡ filled v f k x input body₀ i → c ≡ spotOf v f (k + i) → s ≡ spotStart v c + c .off → a ≡ bodyPlace s
       → last ≡ moved x (take (1024 * i + 1024 - 1024 * i) (drop (1024 * i) input)) → putMid a (a + 1024 - a) body last ≡ filled v f k x input body₀ (i + 1)
   unfolding filled
   write-more room l e at h place h' =
@@ -112,7 +112,7 @@ module _ (v : View) (f k n : ℕ) (x : Bool) (input body₀ body last : List ℕ
 
 -- a turn that reads: the file's next sector is laid over the output
 module _ (v : View) (f k : ℕ) (x : Bool) (body out₀ out last from : List ℕ) (i : ℕ) (c : Spot) (s : ℕ) where
-  pub read-more : out ≡ fetched v f k x body out₀ i → c ≡ spotOf v f (k + i) → s ≡ startAt v c + c .off → from ≡ sectorBytes body s → length from ≡ 1024
+  pub read-more : out ≡ fetched v f k x body out₀ i → c ≡ spotOf v f (k + i) → s ≡ spotStart v c + c .off → from ≡ sectorContent body s → length from ≡ 1024
       → last ≡ moved x from → putMid (1024 * i) (1024 * i + 1024 - 1024 * i) out last ≡ fetched v f k x body out₀ (i + 1)
   unfolding fetched
   read-more e at h part size h' =

@@ -17,7 +17,7 @@ use Rattle.tables.specs.Views.{View, viewOf, Parent}
 use Rattle.tables.specs.Rules.R8.{fileSectors}
 use Rattle.tables.proofs.IndexLaws.{slots-in}
 use Rattle.files.specs.declared.spot.Spot.{Spot}
-use Rattle.files.specs.Spots.{spotAt, startAt, countAt, moreAt, nextRun, onward, spotOf, OnTable, OnSector}
+use Rattle.files.specs.Spots.{spotAt, spotStart, spotCount, moreAt, nextRun, onward, spotOf, OnTable, OnSector}
 use Rattle.files.proofs.SpotLaws.{onward-under, onward-run, run-more, run-further, spot-on}
 
 -- ---- the pointer at a spot
@@ -30,7 +30,7 @@ module _ (p : Places) (b : List ℕ) (c : Spot) (t : List ℕ) (at : ℕ) (is : 
   pointer-in o = let i = c .table .0 in let e : baseOf i t ≡ baseOf i (tableAt p b i) = ap (baseOf i) is in omega (arith, o .slot', slots-in i (tableAt p b i))
 
   pub pointer-is : (q : Pointer) → q ≡ pointerAt t (at + 6 * c .slot) → q .count < 65536
-      → (q .start .0 ≡ startAt (viewOf p b) c) × (q .count ≡ countAt (viewOf p b) c) × (q .count < 65536)
+      → (q .start .0 ≡ spotStart (viewOf p b) c) × (q .count ≡ spotCount (viewOf p b) c) × (q .count < 65536)
   pointer-is q e l = (rw (e, base, is) refl, rw (e, base, is) refl, l)
 
   module _ (n : ℕ) (slots : n ≡ slotsOf (c .table .0) t) (low : c .slot + 1 < n) where
@@ -62,7 +62,7 @@ module _ (v : View) (c : Spot) where
     pub next-table : m ≡ false → (x : Index) (t : List ℕ) → x .0 ≡ linkOf t → t ≡ v .table (c .table .0) → _≡_ {A = Spot} (record { table = x; slot = 0; off = 0 }) (nextRun v c)
     next-table e x t l h = (let w : x .0 ≡ linkOf (v .table (c .table .0)) = l ∙ ap linkOf h in ap (λ (n : ℕ). spotAt n 0) w) ∙ sym (run-further v c (sym is ∙ e))
 
-  module _ (n : ℕ) (is : n ≡ countAt v c) where
+  module _ (n : ℕ) (is : n ≡ spotCount v c) where
     pub onward-same : c .off + 1 < n → _≡_ {A = Spot} (record { table = c .table; slot = c .slot; off = c .off + 1 }) (onward v c)
     onward-same l = sym (onward-under v c (omega arith))
 
@@ -88,18 +88,18 @@ module _ (v : View) (f i : ℕ) (c : Spot) (is : spotOf v f i ≡ c) (first : c 
   at d = record { table = c .table; slot = c .slot; off = d }
 
   -- under one pointer the sectors follow each other
-  spot-under : (d : ℕ) → d < countAt v c → spotOf v f (i + d) ≡ at d
+  spot-under : (d : ℕ) → d < spotCount v c → spotOf v f (i + d) ≡ at d
   unfolding spotOf
   spot-under zero l = ap (spotOf v f) (let e : i + 0 ≡ i = omega arith in e) ∙ is ∙ ap at first
   spot-under (suc d) l =
       ap (spotOf v f) (let e : i + suc d ≡ suc (i + d) = omega arith in e) ∙ ap (onward v) (spot-under d (omega arith))
       ∙ onward-under v (at d) (omega arith) ∙ ap at (let e : d + 1 ≡ suc d = omega arith in e)
 
-  spot-run : 0 < countAt v c → spotOf v f (i + countAt v c) ≡ nextRun v c
+  spot-run : 0 < spotCount v c → spotOf v f (i + spotCount v c) ≡ nextRun v c
   unfolding spotOf
   spot-run l =
-      let d = countAt v c - 1 in
-      ap (spotOf v f) (let e : i + countAt v c ≡ suc (i + d) = omega arith in e) ∙ ap (onward v) (spot-under d (omega arith))
+      let d = spotCount v c - 1 in
+      ap (spotOf v f) (let e : i + spotCount v c ≡ suc (i + d) = omega arith in e) ∙ ap (onward v) (spot-under d (omega arith))
       ∙ onward-run v (at d) (omega arith) ∙ run-same v c d
 
 -- c is the first sector under its pointer, which has n, and the k-th is `rest` sectors further
@@ -107,9 +107,9 @@ pub record Seeking (v : View) (f k : ℕ) (c : Spot) (rest n : ℕ) : Type 0 whe
   pub within : rest ≤ k
   pub spot : spotOf v f (k - rest) ≡ c
   pub first : c .off ≡ 0
-  pub count : n ≡ countAt v c
+  pub count : n ≡ spotCount v c
 
-pub seek-none : (v : View) (f k n : ℕ) → n ≡ countAt v (spotAt f 0) → Seeking v f k (spotAt f 0) k n
+pub seek-none : (v : View) (f k n : ℕ) → n ≡ spotCount v (spotAt f 0) → Seeking v f k (spotAt f 0) k n
 unfolding spotOf
 seek-none v f k n e = record { within = omega arith; spot = ap (spotOf v f) (let z : k - k ≡ 0 = omega arith in z); first = refl; count = e }
 
@@ -139,13 +139,13 @@ module _ (p : Places) (b : List ℕ) (f k : ℕ) (lay : Layout p (length b)) (la
     module _ (more : n ≤ rest) (c' : Spot) (is : c' ≡ nextRun (viewOf p b) c) where
       seek-spot : spotOf (viewOf p b) f (k - (rest - n)) ≡ c'
       seek-spot =
-          let e : k - (rest - n) ≡ k - rest + countAt (viewOf p b) c = omega (arith, s .within, s .count) in
+          let e : k - (rest - n) ≡ k - rest + spotCount (viewOf p b) c = omega (arith, s .within, s .count) in
           ap (spotOf (viewOf p b) f) e ∙ spot-run (viewOf p b) f (k - rest) c (s .spot) (s .first) (omega (arith, s .count, some)) ∙ sym is
 
       pub seek-next : OnTable (viewOf p b) c'
       seek-next = rw seek-spot at (spot-on p b lay lawful f parent (k - (rest - n)) (omega arith)) .table'
 
-      pub seek-more : (n' : ℕ) → n' ≡ countAt (viewOf p b) c' → Seeking (viewOf p b) f k c' (rest - n) n'
+      pub seek-more : (n' : ℕ) → n' ≡ spotCount (viewOf p b) c' → Seeking (viewOf p b) f k c' (rest - n) n'
       seek-more n' e = record {
         within = omega (arith, s .within);
         spot = seek-spot;

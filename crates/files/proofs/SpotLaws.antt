@@ -24,7 +24,7 @@ use Rattle.tables.proofs.IndexLaws.{slots-parent}
 use Rattle.allocation.specs.Last.{usedPointers}
 use Rattle.allocation.proofs.LastLaws.{used-le, used-before, used-not, used-some}
 use Rattle.files.specs.declared.spot.Spot.{Spot}
-use Rattle.files.specs.Spots.{spotAt, countAt, moreAt, nextRun, onward, spotOf, kthSector, OnSector}
+use Rattle.files.specs.Spots.{spotAt, spotCount, moreAt, nextRun, onward, spotOf, kthSector, OnSector}
 use Rattle.files.proofs.FileTables.{tables-in, sectors-chain}
 
 -- spot c is the file's k-th sector: in the `place`-th of its m + 1 tables, behind the sectors of the tables and pointers before it
@@ -34,7 +34,7 @@ pub record Reached (v : View) (f m k : ℕ) (c : Spot) : Type 0 where
   pub here : walk (next v) f place ≡ c .table .0
   pub slot' : c .slot < slotsOf (c .table .0) (v .table (c .table .0))
   pub used : Used (c .table .0) (v .table (c .table .0)) (c .slot)
-  pub off' : c .off < countAt v c
+  pub off' : c .off < spotCount v c
   pub number : k ≡ sumTo place (λ n. sectorsOf (walk (next v) f n) (v .table (walk (next v) f n))) + sumTo (c .slot) (λ j. countOf (c .table .0) (v .table (c .table .0)) j) + c .off
 
 pub spot-next : (v : View) (f k : ℕ) → spotOf v f (k + 1) ≡ onward v (spotOf v f k)
@@ -44,13 +44,13 @@ spot-next v f k = rw (add-one k)
 -- ---- one step onward
 
 module _ (v : View) (c : Spot) where
-  pub onward-under : c .off + 1 < countAt v c → onward v c ≡ record { table = c .table; slot = c .slot; off = c .off + 1 }
+  pub onward-under : c .off + 1 < spotCount v c → onward v c ≡ record { table = c .table; slot = c .slot; off = c .off + 1 }
   unfolding onward
-  onward-under l = rw (lt-ltb (c .off + 1) (countAt v c) l)
+  onward-under l = rw (lt-ltb (c .off + 1) (spotCount v c) l)
 
-  pub onward-run : countAt v c ≤ c .off + 1 → onward v c ≡ nextRun v c
+  pub onward-run : spotCount v c ≤ c .off + 1 → onward v c ≡ nextRun v c
   unfolding onward
-  onward-run l = rw (le-ltb (c .off + 1) (countAt v c) l)
+  onward-run l = rw (le-ltb (c .off + 1) (spotCount v c) l)
 
   pub run-more : moreAt v c ≡ true → nextRun v c ≡ spotAt (c .table .0) (c .slot + 1)
   unfolding nextRun
@@ -136,7 +136,7 @@ module _ (v : View) (r4 : R4 v) (r5 : R5 v) (r6 : R6 v) (few : v .indexes ≤ 40
         }
 
     -- the spot is the last sector under its pointer
-    module _ (end : countAt v c ≤ c .off + 1) where
+    module _ (end : spotCount v c ≤ c .off + 1) where
       -- the table has a next pointer
       to-slot : moreAt v c ≡ true → Reached v f (r5 .long f) (suc k) (spotAt i (c .slot + 1))
       to-slot e =
@@ -193,7 +193,7 @@ module _ (v : View) (r4 : R4 v) (r5 : R5 v) (r6 : R6 v) (few : v .indexes ≤ 40
       to-run false e l = rw (run-further v c e) (to-table e l)
 
     reached-more : suc k < fileSectors v f → Reached v f (r5 .long f) (suc k) (onward v c)
-    reached-more l = elim (decLt (c .off + 1) (countAt v c)) [
+    reached-more l = elim (decLt (c .off + 1) (spotCount v c)) [
       | yes h ↦ rw (onward-under v c h) (record { place = r .place; within = r .within; here = r .here; slot' = r .slot'; used = r .used; off' = h; number = omega (arith, r .number) })
       | no h ↦ rw (onward-run v c (omega arith)) (to-run (omega arith) (moreAt v c) refl l)
     ]

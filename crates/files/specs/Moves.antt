@@ -25,8 +25,8 @@ abbrev pub bodyPlace : ℕ → ℕ
 bodyPlace s = 1024 * (s - 1024)
 
 -- the 1,024 bytes of sector s, as they lie in the body
-abbrev pub sectorBytes : List ℕ → ℕ → List ℕ
-sectorBytes body s = take 1024 (drop (bodyPlace s) body)
+abbrev pub sectorContent : List ℕ → ℕ → List ℕ
+sectorContent body s = take 1024 (drop (bodyPlace s) body)
 
 -- the n-th 1,024 bytes of a buffer
 abbrev pub piece : List ℕ → ℕ → List ℕ
@@ -42,7 +42,7 @@ filled v f k x input body (suc n) = over (filled v f k x input body n) (bodyPlac
 unfoldable pub fetched : View → ℕ → ℕ → Bool → List ℕ → List ℕ → ℕ → List ℕ
 unfolding moved kthSector
 fetched v f k x body out zero = out
-fetched v f k x body out (suc n) = over (fetched v f k x body out n) (1024 * n) (moved x (sectorBytes body (kthSector v f (k + n))))
+fetched v f k x body out (suc n) = over (fetched v f k x body out n) (1024 * n) (moved x (sectorContent body (kthSector v f (k + n))))
 
 -- n sectors of file f from the k-th on can be moved between the body and a buffer of `room` bytes
 pub record Movable (v : View) (f k n room body : ℕ) : Type 0 where

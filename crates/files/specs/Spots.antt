@@ -14,15 +14,15 @@ abbrev pub spotAt : ℕ → ℕ → Spot
 spotAt i j = record { table = record { 0 = i }; slot = j; off = 0 }
 
 -- the pointer at the spot: its start and its count
-abbrev pub startAt : View → Spot → ℕ
-startAt v c = startOf (c .table .0) (v .table (c .table .0)) (c .slot)
+abbrev pub spotStart : View → Spot → ℕ
+spotStart v c = startOf (c .table .0) (v .table (c .table .0)) (c .slot)
 
-abbrev pub countAt : View → Spot → ℕ
-countAt v c = countOf (c .table .0) (v .table (c .table .0)) (c .slot)
+abbrev pub spotCount : View → Spot → ℕ
+spotCount v c = countOf (c .table .0) (v .table (c .table .0)) (c .slot)
 
 -- the table has a next pointer, and it is used
 unfoldable pub moreAt : View → Spot → Bool
-moreAt v c = ltb (c .slot + 1) (slotsOf (c .table .0) (v .table (c .table .0))) && ltb 0 (startAt v (spotAt (c .table .0) (c .slot + 1)) + countAt v (spotAt (c .table .0) (c .slot + 1)))
+moreAt v c = ltb (c .slot + 1) (slotsOf (c .table .0) (v .table (c .table .0))) && ltb 0 (spotStart v (spotAt (c .table .0) (c .slot + 1)) + spotCount v (spotAt (c .table .0) (c .slot + 1)))
 
 -- the first sector under the next pointer: of the table, or else of the next table in the chain
 unfoldable pub nextRun : View → Spot → Spot
@@ -32,7 +32,7 @@ nextRun v c = cond (moreAt v c) (spotAt (c .table .0) (c .slot + 1)) (spotAt (ne
 -- the next sector: under the pointer, or else the first under the next pointer
 unfoldable pub onward : View → Spot → Spot
 unfolding nextRun
-onward v c = cond (ltb (c .off + 1) (countAt v c)) (record { table = c .table; slot = c .slot; off = c .off + 1 }) (nextRun v c)
+onward v c = cond (ltb (c .off + 1) (spotCount v c)) (record { table = c .table; slot = c .slot; off = c .off + 1 }) (nextRun v c)
 
 -- the k-th sector of file f
 unfoldable pub spotOf : View → ℕ → ℕ → Spot
@@ -43,7 +43,7 @@ spotOf v f (suc k) = onward v (spotOf v f k)
 -- its number on the volume
 unfoldable pub kthSector : View → ℕ → ℕ → ℕ
 unfolding spotOf
-kthSector v f k = startAt v (spotOf v f k) + spotOf v f k .off
+kthSector v f k = spotStart v (spotOf v f k) + spotOf v f k .off
 
 -- ---- what the functions ask
 
@@ -56,6 +56,6 @@ pub record OnTable (v : View) (c : Spot) : Type 0 where
 -- it is a sector under that pointer, between the system zones
 pub record OnSector (v : View) (c : Spot) : Type 0 where
   pub table' : OnTable v c
-  pub off' : c .off < countAt v c
-  pub from : 1024 ≤ startAt v c
-  pub to : startAt v c + countAt v c ≤ 1024 * (v .zones - 1)
+  pub off' : c .off < spotCount v c
+  pub from : 1024 ≤ spotStart v c
+  pub to : spotStart v c + spotCount v c ≤ 1024 * (v .zones - 1)

@@ -12,7 +12,7 @@ ghost use lib.ListN.{length};
 ghost use Rattle.tables.specs.Places.{Layout};
 ghost use Rattle.tables.specs.Lawful.{Lawful};
 ghost use Rattle.tables.specs.Views.{viewOf};
-ghost use Rattle.files.specs.Moves.{exchanged, moved, bodyPlace, sectorBytes, filled, fetched, Movable};
+ghost use Rattle.files.specs.Moves.{exchanged, moved, bodyPlace, sectorContent, filled, fetched, Movable};
 
 // Byte pairs exchanged.
 fn exchange_sector(dst: &mut [u8], src: &[u8])
@@ -50,7 +50,7 @@ pub fn body_place(s: Sector) -> usize
 // The sector as it lies in the body.
 pub fn body_sector(body: &[u8], s: Sector) -> &[u8]
     requires { ⌜ (1024 ≤ s .0) × (1024 * (s .0 - 1023) ≤ length (now body)) ⌝ }
-    ensures { λ r. ⌜ (now r ≡ sectorBytes (now (body .entry)) (s .0)) × (length (now r) ≡ 1024) ⌝ }
+    ensures { λ r. ⌜ (now r ≡ sectorContent (now (body .entry)) (s .0)) × (length (now r) ≡ 1024) ⌝ }
 {
     let a = body_place(s);
     let e = a + 1024;

@@ -15,7 +15,7 @@ ghost use Rattle.tables.specs.Places.{Layout};
 ghost use Rattle.tables.specs.Lawful.{Lawful};
 ghost use Rattle.tables.specs.Rules.R8.{fileSectors};
 ghost use Rattle.tables.specs.Views.{viewOf, Parent};
-ghost use Rattle.files.specs.Spots.{startAt, countAt, moreAt, nextRun, onward, spotOf, OnTable, OnSector};
+ghost use Rattle.files.specs.Spots.{spotStart, spotCount, moreAt, nextRun, onward, spotOf, OnTable, OnSector};
 
 // A sector under a pointer: the table, the pointer's number in it, and the sectors before it under the same pointer.
 pub struct Spot {
@@ -28,7 +28,7 @@ pub struct Spot {
 fn pointer_of(b: &[u8], p: Places, c: Spot) -> Pointer
     requires { ⌜ Layout p (length (now b)) ⌝ }
     requires { ⌜ OnTable (viewOf p (now b)) c ⌝ }
-    ensures { λ r. ⌜ (r .start .0 ≡ startAt (viewOf p (now (b .entry))) c) × (r .count ≡ countAt (viewOf p (now (b .entry))) c) × (r .count < 65536) ⌝ }
+    ensures { λ r. ⌜ (r .start .0 ≡ spotStart (viewOf p (now (b .entry))) c) × (r .count ≡ spotCount (viewOf p (now (b .entry))) c) × (r .count < 65536) ⌝ }
 {
     let t = table(b, p, c.table);
     pointer_at(t, base(c.table, t) + 6 * c.slot)
@@ -92,7 +92,7 @@ pub fn onward(b: &[u8], p: Places, c: Spot) -> Spot
 pub fn sector_of(b: &[u8], p: Places, c: Spot) -> Sector
     requires { ⌜ Layout p (length (now b)) ⌝ }
     requires { ⌜ OnSector (viewOf p (now b)) c ⌝ }
-    ensures { λ r. ⌜ r .0 ≡ startAt (viewOf p (now (b .entry))) c + c .off ⌝ }
+    ensures { λ r. ⌜ r .0 ≡ spotStart (viewOf p (now (b .entry))) c + c .off ⌝ }
 {
     let q = pointer_of(b, p, c);
     Sector(q.start.0 + c.off)

@@ -27,7 +27,7 @@ use Rattle.requests.specs.Body.{bodyTests}
 use Rattle.requests.specs.Create.{argumentTests}
 use Rattle.requests.specs.Format.{sizeOf}
 use Rattle.requests.specs.Locate.{sectorOf}
-use Rattle.requests.specs.Named.{fileBytes, namedTests, usableTests}
+use Rattle.requests.specs.Named.{fileBytes, stateTests, usableTests}
 use Rattle.requests.specs.Read.{endOf, readTests, readAmount, readOut, ReadOut}
 use Rattle.requests.specs.Show.{showTests, bytesOf, Shown}
 use Rattle.requests.specs.History.{Volume, seen, Sound, write, Does, bytesAt}
@@ -93,7 +93,7 @@ module _ (v w : Volume) (g : ℕ) (a : SameFile v w g) where
 
   -- 15, 8, 9, 10
   same-body : (n : ℕ) (ts us : List Test) → (Parent (seen v) g → Same ts us) → Same (bodyTests n (v .books) (v .body) g ++ ts) (bodyTests n (w .books) (w .body) g ++ us)
-  unfolding bodyTests usableTests namedTests
+  unfolding bodyTests usableTests stateTests
   same-body n ts us h =
       same-more 15 _ _ _ _ (λ s. a .now .sized) (λ s. a .was .sized) (λ s.
       same-more 8 _ _ _ _ (a .stands) (a .stood) (λ parent.

@@ -50,7 +50,7 @@ use Rattle.allocation.proofs.FileLaws.{provided-head, started-made, ready-start
 use Rattle.allocation.proofs.ViewGrowth.{addView, startedView, tables-shown}
 use Rattle.allocation.proofs.FreshView.{freshView, createdView, created-is, Staged, staged-created, staged-fresh, staged-flag}
 use Rattle.files.specs.declared.spot.Spot.{Spot}
-use Rattle.files.specs.Moves.{moved, sectorBytes, fetched}
+use Rattle.files.specs.Moves.{moved, sectorContent, fetched}
 use Rattle.files.specs.Spots.{onward, spotOf, kthSector}
 use Rattle.requests.specs.declared.amount.Amount.the-variants.{Is}
 use Rattle.requests.specs.declared.answer.Answer.{Answer}
@@ -59,7 +59,7 @@ use Rattle.requests.specs.Answers.{useTests}
 use Rattle.requests.specs.Body.{BodySized, bodyTests}
 use Rattle.requests.specs.Create.{argumentTests}
 use Rattle.requests.specs.Mount.{putFlag}
-use Rattle.requests.specs.Named.{fileBytes, namedTests, usableTests}
+use Rattle.requests.specs.Named.{fileBytes, stateTests, usableTests}
 use Rattle.requests.specs.Read.{wholeSectors, endOf, MoveAllowed, readTests, readAmount, readOut, ReadOut}
 use Rattle.requests.proofs.FormatRequestLaws.{formatted-good}
 use Rattle.requests.proofs.MountKeeps.{flag-put, flag-keeps}
@@ -368,7 +368,7 @@ kth5 = kth-same (viewOf (placesOf after5) after5) view5 1 4 (λ j l. rw (spots5 
 -- no number before 14 applies
 read5 : (at long n : ℕ) → at ≤ 2147483647 → at % 1024 ≡ 0 → long ≤ 2147483647 → Gate (asks 14 (at < endOf after5 1) ∷ []) n
     → (body out : List ℕ) → BodySized after5 body → wholeSectors long ≤ length out → Gate (readTests after5 body 1 (Is at) (Is long) (length out)) n
-unfolding readTests argumentTests useTests bodyTests usableTests namedTests
+unfolding readTests argumentTests useTests bodyTests usableTests stateTests
 read5 at long n few whole short last body out sized room =
     let allowed : MoveAllowed (Is at) (Is long) (length out) = record { position' = few; sector = whole; long' = short; buffer = room } in
     let word = ap wordOf bytes5 ∙ fields5 .0 in
@@ -385,11 +385,11 @@ amount5 : (readAmount after5 1 4096 2048 ≡ 1024) × (readAmount after5 1 0 102
 unfolding readAmount
 amount5 = (rw end5 refl, rw end5 refl)
 
-output5 : (exchange : Bool) (body out : List ℕ) → readOut after5 body 1 4096 1024 exchange out ≡ over out 0 (moved exchange (sectorBytes body 2048))
+output5 : (exchange : Bool) (body out : List ℕ) → readOut after5 body 1 4096 1024 exchange out ≡ over out 0 (moved exchange (sectorContent body 2048))
 unfolding fetched
-output5 exchange body out = ap (λ (s : ℕ). over out 0 (moved exchange (sectorBytes body s))) kth5
+output5 exchange body out = ap (λ (s : ℕ). over out 0 (moved exchange (sectorContent body s))) kth5
 
-last-sector : Reads after5 4096 2048 (Done 1024) (λ exchange body out. over out 0 (moved exchange (sectorBytes body 2048)))
+last-sector : Reads after5 4096 2048 (Done 1024) (λ exchange body out. over out 0 (moved exchange (sectorContent body 2048)))
 last-sector exchange body out sized room = record {
   number = read5 4096 2048 0 (omega arith) refl (omega arith) (gate-passes 14 _ [] 0 (rw end5 (omega arith)) gate-end) body out sized room;
   answer = ap Done (sym (amount5 .0));
@@ -469,7 +469,7 @@ pub cards : (countsOf 252 (1773 * 1024) ≡ 1 ∷ 2 ∷ 3 ∷ 2 ∷ 3 ∷ 1 ∷ 
     × NoRoom (freshPlaces 3 8) (fresh 5120 3) (countsOf 252 5000)
     × (pointersOf (freshPlaces 3 8) after9 1 ≡ run 1024 5 ∷ [])
     × (pointersOf (freshPlaces 36 8) after10 1 ≡ run 1024 31744 ∷ run 32768 1024 ∷ [])
-    × Reads after5 4096 2048 (Done 1024) (λ exchange body out. over out 0 (moved exchange (sectorBytes body 2048)))
+    × Reads after5 4096 2048 (Done 1024) (λ exchange body out. over out 0 (moved exchange (sectorContent body 2048)))
     × Reads after5 5120 2048 (Refused 14) (λ exchange body out. out)
     × Reads after5 0 1023 (Done 0) (λ exchange body out. out)
 unfolding countsOf

@@ -22,7 +22,7 @@ use Rattle.tables.specs.Rules.R8.{fileSectors}
 use Rattle.tables.specs.Views.{viewOf, Parent}
 use Rattle.tables.proofs.PointerLaws.{set-under, under-set}
 use Rattle.allocation.proofs.LastLaws.{file-short}
-use Rattle.files.specs.Moves.{sectorBytes}
+use Rattle.files.specs.Moves.{sectorContent}
 use Rattle.files.specs.Spots.{kthSector}
 use Rattle.files.proofs.PlaceLaws.{kth-under, place-one, under-place}
 use Rattle.files.proofs.SpotLaws.{kth-inside}
@@ -110,20 +110,20 @@ module _ (v w : Volume) (start : Sound v) (h : History v w) where
     place-kept f k n here kept = step-place w x still-sound s f k n here kept
 
     -- what is not written stays, in old sectors as in new ones
-    pub bytes-kept : (f k n : ℕ) → Belongs x f k n → ((bytes : List ℕ) → PutsIn w x (s .request) (s .does) f k bytes → ⊥) → sectorBytes (x .body) n ≡ sectorBytes (w .body) n
+    pub bytes-kept : (f k n : ℕ) → Belongs x f k n → ((bytes : List ℕ) → PutsIn w x (s .request) (s .does) f k bytes → ⊥) → sectorContent (x .body) n ≡ sectorContent (w .body) n
     bytes-kept f k n here unwritten = step-bytes w x still-sound (s .request) (s .does) f k n here unwritten
 
   -- ---- "each file sector holds what the last write put there until the file's actual delete"
 
   pub memory : (x y : Volume) (s : Step w x) (f k : ℕ) (bytes : List ℕ) → PutsIn w x (s .request) (s .does) f k bytes → (after : History x y) → SparedIn after f k
-      → (n : ℕ) × Belongs y f k n × (sectorBytes (y .body) n ≡ bytes)
+      → (n : ℕ) × Belongs y f k n × (sectorContent (y .body) n ≡ bytes)
   memory x y s f k bytes put after spared =
       let p = step-puts w x still-sound (s .request) (s .does) f k bytes put in
       let q = spared-stays x y (step-sound w x still-sound (s .request) (s .does)) f k (p .0) (p .1) after spared in
       (p .0, q .0, q .1 ∙ p .2)
 
   -- and so does every sector hold what it held, written or not, while nothing is put there and the file is not actually deleted
-  pub stays : (y : Volume) (f k n : ℕ) → Belongs w f k n → (after : History w y) → SparedIn after f k → Belongs y f k n × (sectorBytes (y .body) n ≡ sectorBytes (w .body) n)
+  pub stays : (y : Volume) (f k n : ℕ) → Belongs w f k n → (after : History w y) → SparedIn after f k → Belongs y f k n × (sectorContent (y .body) n ≡ sectorContent (w .body) n)
   stays y f k n here after spared = spared-stays w y still-sound f k n here after spared
 
   -- ---- for the person who reads only one line: two files share no sector, and a write to one changes nothing that the other gives

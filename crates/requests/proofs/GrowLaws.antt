@@ -9,9 +9,11 @@ use lib.ListN.{length}
 use borrow.Author.Tests.{lt-ltb, le-ltb}
 use Rattle.field.specs.Says.{Says}
 use Rattle.field.proofs.Tests.{says-map}
+use Rattle.tables.specs.declared.entry.Entry.{Entry}
 use Rattle.tables.specs.declared.places.Places.{Places}
 use Rattle.tables.specs.Dates.{Date}
-use Rattle.tables.specs.Indexes.{tableAt, lengthOf, attributeOf}
+use Rattle.tables.specs.Entries.{entryOf}
+use Rattle.tables.specs.Indexes.{tableAt, wordOf, lengthOf, attributeOf}
 use Rattle.tables.specs.Places.{placesOf, Layout}
 use Rattle.tables.specs.Gates.{Gate}
 use Rattle.tables.specs.Books.{Good}
@@ -32,29 +34,36 @@ use Rattle.requests.specs.Named.{fileBytes, namedTests, Unprotected}
 use Rattle.requests.specs.Grow.{NotBelow, GrowAllowed, growCounts, kindTests, lackTests, fileTests, growTests, grownTo, Grew}
 use Rattle.requests.proofs.RequestLaws.{after-refused, after-one}
 use Rattle.requests.proofs.CreateLaws.{argument-says, argument-allowed, argument-good, room-provides}
-use Rattle.requests.proofs.NamedLaws.{attribute-read, named-parent}
+use Rattle.requests.proofs.EntryLaws.{variableOne, entry-attribute, variable-entry, entry-variable}
+use Rattle.requests.proofs.NamedLaws.{entry-read, named-parent}
 
 -- ---- 10 and 11
 
-module _ (b : List ℕ) (p : Places) (id : ℕ) (g : Good b p) (t : List ℕ) (bytes : t ≡ tableAt p b id) (a : ℕ) (is : a ≡ attributeOf t) where
-  here : a ≡ attributeOf (fileBytes b id)
-  here = attribute-read b p id g t bytes a is
+module _ (b : List ℕ) (p : Places) (id : ℕ) (g : Good b p) (e : Entry) (is : e ≡ entryOf id (tableAt p b id)) where
+  decoded : e ≡ entryOf id (fileBytes b id)
+  decoded = entry-read b p id g e is
 
-  pub kind-protected : a / 4 % 2 ≢ 0 → Gate (kindTests b id) 10
+  here : e .attribute ≡ attributeOf (fileBytes b id)
+  here = entry-attribute id (fileBytes b id) e decoded
+
+  pub kind-protected : e .attribute / 4 % 2 ≢ 0 → Gate (kindTests b id) 10
   unfolding kindTests
   kind-protected ne = gate-fails 10 _ _ (omega arith) (λ z. ne (ap (λ (x : ℕ). x / 4 % 2) here ∙ z))
 
-  module _ (free : a / 4 % 2 ≡ 0) where
+  module _ (free : e .attribute / 4 % 2 ≡ 0) (parent : Parent (viewOf p b) id) where
     unprotected : Unprotected 4 b id
     unprotected = sym (ap (λ (x : ℕ). x / 4 % 2) here) ∙ free
 
-    pub kind-fixed : a / 16 % 2 ≢ 1 → Gate (kindTests b id) 11
-    unfolding kindTests
-    kind-fixed ne = gate-passes 10 _ _ 11 unprotected (gate-fails 11 _ [] (omega arith) (λ z. ne (ap variableBit here ∙ z)))
+    own : wordOf (fileBytes b id) ≡ id
+    own = rw (← g .places) (parent .word)
 
-    pub kind-fine : a / 16 % 2 ≡ 1 → Gate (kindTests b id) 0
+    pub kind-fixed : variableOne (e .kind) ≡ 0 → Gate (kindTests b id) 11
     unfolding kindTests
-    kind-fine z = gate-passes 10 _ _ 0 unprotected (gate-passes 11 _ [] 0 (sym (ap variableBit here) ∙ z) gate-end)
+    kind-fixed none = gate-passes 10 _ _ 11 unprotected (gate-fails 11 _ [] (omega arith) (λ z. omega (arith, variable-entry id (fileBytes b id) e decoded (parent .low) own z)))
+
+    pub kind-fine : variableOne (e .kind) ≡ 1 → Gate (kindTests b id) 0
+    unfolding kindTests
+    kind-fine one = gate-passes 10 _ _ 0 unprotected (gate-passes 11 _ [] 0 (entry-variable id (fileBytes b id) e decoded (parent .low) own one) gate-end)
 
 -- ---- 12 and 13, where the file becomes longer
 

@@ -12,7 +12,7 @@ use Rattle.tables.specs.Rules.R9.{freeOne}
 use Rattle.tables.specs.Views.{View, Parent, walk, next}
 use Rattle.tables.proofs.ChainLaws.{walk-once}
 use Rattle.tables.proofs.CountLaws.{free-yes, free-no}
-use Rattle.files.specs.Moves.{sectorBytes}
+use Rattle.files.specs.Moves.{sectorContent}
 use Rattle.files.specs.Spots.{kthSector}
 use Rattle.files.proofs.UntouchedLaws.{other-parent, other-places}
 use Rattle.requests.specs.History.{Volume, seen, Sound, Request, asks, changes, write, Does, Step, History, none, then, namedBy, Belongs, bytesAt, PutsIn, Deletes, SparedIn}
@@ -38,7 +38,7 @@ module _ (v w : Volume) (sound : Sound v) (q : Request) (d : Does q v w) (g : �
       let stays = other-places p b (sound .good .layout) (sound .good .lawful) (seen w) (u .0) (u .1) g parent ne in
       let stands = other-parent p b (sound .good .layout) (sound .good .lawful) (seen w) (u .0) (u .1) g parent ne in
       step-bytes v w sound q d g k (kthSector (seen w) g k) (record { file = stands; place = omega (arith, stays .most); here = refl })
-      (λ bytes put. other (sym (puts-named v w q d g k bytes put))) ∙ ap (sectorBytes (v .body)) (stays .place k l)
+      (λ bytes put. other (sym (puts-named v w q d g k bytes put))) ∙ ap (sectorContent (v .body)) (stays .place k l)
 
 -- a file's sectors stay at their places until it is deleted
 pub step-place : (v w : Volume) → Sound v → (s : Step v w) (f k n : ℕ) → Belongs v f k n → (Deletes v w (s .request) (s .does) f → ⊥) → Belongs w f k n
@@ -54,7 +54,7 @@ sound-after v w start (then {v = x} h s) = step-sound x w (sound-after v x start
 
 -- a place of a file that every step spares keeps its sector and its bytes
 pub spared-stays : (v w : Volume) → Sound v → (f k n : ℕ) → Belongs v f k n → (h : History v w) → SparedIn h f k
-    → Belongs w f k n × (sectorBytes (w .body) n ≡ sectorBytes (v .body) n)
+    → Belongs w f k n × (sectorContent (w .body) n ≡ sectorContent (v .body) n)
 spared-stays v w start f k n here (none e) spared = rw e (here, refl)
 spared-stays v w start f k n here (then {v = x} h s) spared =
     let before = spared-stays v x start f k n here h (spared .0) in

@@ -6,6 +6,7 @@ pub mod AmountLaws
 pub mod FormatRequestLaws
 pub mod MountKeeps
 pub mod CreateLaws
+pub mod EntryLaws
 pub mod NamedLaws
 pub mod GrowLaws
 pub mod FixedLaws

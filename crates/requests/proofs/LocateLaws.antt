@@ -15,7 +15,7 @@ use Rattle.tables.specs.Rules.R8.{fileSectors}
 use Rattle.tables.specs.Views.{viewOf, Parent}
 use Rattle.tables.proofs.GateLaws.{gate-one, gate-fails, gate-passes, gate-end, gate-stop, gate-skip, gate-rest, gate-head, gate-front}
 use Rattle.files.specs.declared.spot.Spot.{Spot}
-use Rattle.files.specs.Spots.{startAt, spotOf, kthSector, OnSector}
+use Rattle.files.specs.Spots.{spotStart, spotOf, kthSector, OnSector}
 use Rattle.files.specs.Moves.{bodyPlace}
 use Rattle.files.proofs.SpotLaws.{spot-on, kth-inside}
 use Rattle.requests.specs.declared.locate.Located.{Located}
@@ -27,7 +27,7 @@ use Rattle.requests.specs.Body.{BodySized, bodyTests}
 use Rattle.requests.specs.Locate.{HasSector, sectorOf, locateTests, numberOf, locatedAs, Locates}
 use Rattle.requests.specs.Show.{showTests, partOf, ShownAt, bytesOf, Shown}
 use Rattle.requests.proofs.RequestLaws.{good-room}
-use Rattle.requests.proofs.NamedLaws.{named-active, usable-active, body-usable}
+use Rattle.requests.proofs.NamedLaws.{state-file, usable-active, body-usable}
 use Rattle.requests.proofs.MountLaws.{use-good}
 
 -- ---- tests between those and 14
@@ -72,10 +72,10 @@ module _ (b : List ℕ) (p : Places) (f k : ℕ) (g : Good b p) (parent : Parent
     pub kth-on : OnSector (viewOf p b) c
     kth-on = rw at (spot-on p b (g .layout) (g .lawful) f parent k has)
 
-    pub kth-found : (s : ℕ) → s ≡ startAt (viewOf p b) c + c .off → (s ≡ kthSector (viewOf p b) f k) × (1024 ≤ s) × (s < 1024 * (p .zones - 1))
+    pub kth-found : (s : ℕ) → s ≡ spotStart (viewOf p b) c + c .off → (s ≡ kthSector (viewOf p b) f k) × (1024 ≤ s) × (s < 1024 * (p .zones - 1))
     unfolding kthSector
     kth-found s e =
-        let is : s ≡ kthSector (viewOf p b) f k = e ∙ ap (λ (d : Spot). startAt (viewOf p b) d + d .off) at in
+        let is : s ≡ kthSector (viewOf p b) f k = e ∙ ap (λ (d : Spot). spotStart (viewOf p b) d + d .off) at in
         let in' = kth-inside p b (g .layout) (g .lawful) f parent k has in
         (is, omega (arith, in' .0), omega (arith, in' .1))
 
@@ -95,7 +95,7 @@ module _ (b : List ℕ) (id k n : ℕ) (h : Gate (locateTests b id k) n) (e : n 
     unfolding locateTests
     locate-asks =
         let q : Gate (locateTests b id k) 0 = rw e at h in
-        rw is (sector-good b id k (namedTests b id) q, (named-active b id (sector-file b id k (namedTests b id) q) .0, sector-has b id k (namedTests b id) q))
+        rw is (sector-good b id k (namedTests b id) q, (state-file b id 0 (sector-file b id k (namedTests b id) q) .0, sector-has b id k (namedTests b id) q))
 
     pub locate-done : (s : Sector) → s .0 ≡ kthSector (viewOf p b) id k → Locates b id k (At s)
     locate-done s at = record { number = rw e at h; answer = ap (λ (x : ℕ). At (record { 0 = x })) (at ∙ ap (λ (x : Places). kthSector (viewOf x b) id k) is) }

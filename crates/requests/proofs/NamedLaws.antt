@@ -1,66 +1,78 @@
 -- Requests that name a file, and those that take the body: each way out of numbers 15, 8, 9 and 10, and what no number says. Assumes nothing.
 use mathlib.Core.Path.{_≡_, sym, ap, _∙_}
 use mathlib.Core.Logic.{_≢_}
-use mathlib.Core.List.{List, []}
+use mathlib.Core.List.{List, [], _∷_}
 use Prim.Native.Nat.{ℕ, _-_, _*_, _/_, _%_, _≤_, _<_}
 use native.Mathlib.Omega.{arith}
 use lib.ListN.{length}
+use Rattle.tables.specs.declared.entry.Entry.{Entry}
 use Rattle.tables.specs.declared.places.Places.{Places}
-use Rattle.tables.specs.Indexes.{tableAt, wordOf, attributeOf}
+use Rattle.tables.specs.Entries.{entryOf}
+use Rattle.tables.specs.Indexes.{tableAt, attributeOf}
 use Rattle.tables.specs.Places.{placesOf, Layout}
-use Rattle.tables.specs.Gates.{Gate}
+use Rattle.tables.specs.Gates.{asks, Gate}
 use Rattle.tables.specs.Books.{Good}
 use Rattle.tables.specs.Rules.R9.{deletedBit}
 use Rattle.tables.specs.Views.{viewOf, Parent}
 use Rattle.tables.proofs.GateLaws.{gate-fails, gate-passes, gate-end, gate-stop, gate-skip, gate-head, gate-front}
-use Rattle.requests.specs.Named.{fileBytes, namedTests, usableTests}
+use Rattle.requests.specs.Named.{fileBytes, stateTests, namedTests, usableTests}
 use Rattle.requests.specs.Body.{BodySized, bodyTests}
+use Rattle.requests.proofs.EntryLaws.{parentOne, entry-attribute, entry-parent, parent-entry}
 
 -- ---- 8 and 9
 
 module _ (b : List ℕ) (p : Places) (id : ℕ) (g : Good b p) where
-  pub named-low : id < 1 → Gate (namedTests b id) 8
-  unfolding namedTests
-  named-low h = gate-fails 8 _ _ (omega arith) (λ f. omega (arith, f .low))
+  -- what the code reads: the file's table, by its bytes or decoded
+  places-read : tableAt p b id ≡ fileBytes b id
+  places-read = ap (λ (q : Places). tableAt q b id) (g .places)
 
-  pub named-high : p .indexes < id → Gate (namedTests b id) 8
-  unfolding namedTests
-  named-high h = gate-fails 8 _ _ (omega arith) (λ f. omega (arith, f .high, ap (λ (q : Places). q .indexes) (g .places)))
+  pub attribute-read : (t : List ℕ) → t ≡ tableAt p b id → (a : ℕ) → a ≡ attributeOf t → a ≡ attributeOf (fileBytes b id)
+  attribute-read t is a e = e ∙ ap attributeOf (is ∙ places-read)
 
-  module _ (t : List ℕ) (is : t ≡ tableAt p b id) where
-    -- what the code reads: the file's table, its attribute, and that it is a parent
-    table-read : t ≡ fileBytes b id
-    table-read = is ∙ ap (λ (q : Places). tableAt q b id) (g .places)
+  pub entry-read : (e : Entry) → e ≡ entryOf id (tableAt p b id) → e ≡ entryOf id (fileBytes b id)
+  entry-read e is = is ∙ ap (entryOf id) places-read
 
-    pub attribute-read : (a : ℕ) → a ≡ attributeOf t → a ≡ attributeOf (fileBytes b id)
-    attribute-read a e = e ∙ ap attributeOf table-read
+  module _ (d : ℕ) where
+    pub state-low : id < 1 → Gate (stateTests d b id) 8
+    unfolding stateTests
+    state-low h = gate-fails 8 _ _ (omega arith) (λ f. omega (arith, f .low))
 
-    module _ (w : ℕ) (word : w ≡ wordOf t) where
-      pub named-other : w ≢ id → Gate (namedTests b id) 8
-      unfolding namedTests
-      named-other ne = gate-fails 8 _ _ (omega arith) (λ f. ne (word ∙ ap wordOf table-read ∙ f .word))
+    pub state-high : p .indexes < id → Gate (stateTests d b id) 8
+    unfolding stateTests
+    state-high h = gate-fails 8 _ _ (omega arith) (λ f. omega (arith, f .high, ap (λ (q : Places). q .indexes) (g .places)))
 
-      module _ (same : w ≡ id) (low : 1 ≤ id) (high : id ≤ p .indexes) where
-        pub parent-read : Parent (viewOf (placesOf b) b) id
-        parent-read = record { low = low; high = rw (g .places) at high; word = sym (word ∙ ap wordOf table-read) ∙ same }
+    module _ (e : Entry) (is : e ≡ entryOf id (tableAt p b id)) where
+      pub state-other : parentOne (e .kind) ≡ 0 → Gate (stateTests d b id) 8
+      unfolding stateTests
+      state-other none = gate-fails 8 _ _ (omega arith) (λ f. omega (arith, parent-entry id (fileBytes b id) e (entry-read e is) (f .low) (f .word)))
 
-        pub named-deleted : (a : ℕ) → a ≡ attributeOf t → a % 2 ≢ 0 → Gate (namedTests b id) 9
-        unfolding namedTests
-        named-deleted a e ne = gate-passes 8 _ _ 9 parent-read (gate-fails 9 _ [] (omega arith) (λ z. ne (ap deletedBit (attribute-read a e) ∙ z)))
+      pub state-parent : parentOne (e .kind) ≡ 1 → 1 ≤ id → id ≤ p .indexes → (r : ℕ) → Gate (asks 9 (deletedBit (e .attribute) ≡ d) ∷ []) r → Gate (stateTests d b id) r
+      unfolding stateTests
+      state-parent one low high r h =
+          let f : Parent (viewOf (placesOf b) b) id = record { low = low; high = rw (g .places) at high; word = entry-parent id (fileBytes b id) e (entry-read e is) one } in
+          gate-passes 8 _ _ r f (rw (entry-attribute id (fileBytes b id) e (entry-read e is)) at h)
 
-        pub named-fine : (a : ℕ) → a ≡ attributeOf t → a % 2 ≡ 0 → Gate (namedTests b id) 0
-        unfolding namedTests
-        named-fine a e z = gate-passes 8 _ _ 0 parent-read (gate-passes 9 _ [] 0 (sym (ap deletedBit (attribute-read a e)) ∙ z) gate-end)
+    pub state-fine : Parent (viewOf p b) id → deletedBit (attributeOf (tableAt p b id)) ≡ d → Gate (stateTests d b id) 0
+    unfolding stateTests
+    state-fine f mark = gate-passes 8 _ _ 0 (rw (g .places) at f) (gate-passes 9 _ [] 0 (rw (g .places) at mark) gate-end)
+
+-- 9: the mark that is needed
+module _ (a d : ℕ) where
+  pub mark-other : a % 2 ≢ d → Gate (asks 9 (deletedBit a ≡ d) ∷ []) 9
+  mark-other ne = gate-fails 9 _ [] (omega arith) ne
+
+  pub mark-fine : a % 2 ≡ d → Gate (asks 9 (deletedBit a ≡ d) ∷ []) 0
+  mark-fine e = gate-passes 9 _ [] 0 e gate-end
 
 module _ (b : List ℕ) (id : ℕ) where
-  -- an active file
-  pub named-active : Gate (namedTests b id) 0 → Parent (viewOf (placesOf b) b) id × (deletedBit (attributeOf (fileBytes b id)) ≡ 0)
-  unfolding namedTests
-  named-active h = let s = gate-head 8 (Parent (viewOf (placesOf b) b) id) _ h in (s .0, gate-head 9 _ [] (s .1) .0)
+  -- a file, active or deleted
+  pub state-file : (d : ℕ) → Gate (stateTests d b id) 0 → Parent (viewOf (placesOf b) b) id × (deletedBit (attributeOf (fileBytes b id)) ≡ d)
+  unfolding stateTests
+  state-file d h = let s = gate-head 8 (Parent (viewOf (placesOf b) b) id) _ h in (s .0, gate-head 9 _ [] (s .1) .0)
 
   module _ (p : Places) (n : ℕ) (g : Good b p) (h : Gate (namedTests b id) n) (e : n ≡ 0) where
     pub named-parent : Parent (viewOf p b) id
-    named-parent = rw (g .places) (named-active (rw e at h) .0)
+    named-parent = rw (g .places) (state-file 0 (rw e at h) .0)
 
     -- what reading its table asks
     pub named-table : Layout p (length b) × ((1 ≤ id) × (id ≤ p .indexes))
@@ -89,7 +101,7 @@ module _ (w : ℕ) (b : List ℕ) (id : ℕ) where
   module _ (h : Gate (usableTests w b id) 0) where
     pub usable-active : Parent (viewOf (placesOf b) b) id × (deletedBit (attributeOf (fileBytes b id)) ≡ 0)
     unfolding usableTests
-    usable-active = named-active b id (gate-front (namedTests b id) _ h)
+    usable-active = state-file b id 0 (gate-front (namedTests b id) _ h)
 
 -- ---- 15, 8, 9 and 10
 

@@ -13,7 +13,7 @@ use Rattle.field.proofs.NumberLaws.{u16-kept, kept-putU32}
 use Rattle.tables.specs.declared.places.Places.{Places}
 use Rattle.tables.specs.Books.{Good, bookTests}
 use Rattle.tables.specs.Gates.{Gate}
-use Rattle.tables.specs.Indexes.{tableAt, wordOf, lengthOf, attributeOf}
+use Rattle.tables.specs.Indexes.{tableAt, lengthOf, attributeOf}
 use Rattle.tables.specs.Lawful.{Lawful}
 use Rattle.tables.specs.Places.{placesOf, Layout}
 use Rattle.tables.specs.Rules.R8.{variableBit}
@@ -39,7 +39,7 @@ use Rattle.requests.specs.Read.{wholeSectors, endOf, MoveAllowed, readTe
 use Rattle.requests.specs.Write.{WriteAllowed, askedLength, moveTests, writeTests, settle, writtenBooks, writtenBody, Wrote}
 use Rattle.requests.proofs.MountLaws.{use-fine}
 use Rattle.requests.proofs.CreateLaws.{argument-fine}
-use Rattle.requests.proofs.NamedLaws.{named-fine, usable-active, usable-fine, body-goes, body-usable}
+use Rattle.requests.proofs.NamedLaws.{state-fine, usable-active, usable-fine, body-goes, body-usable}
 use Rattle.requests.proofs.StampLaws.{table-dated, same-counted, put-fields}
 use Rattle.requests.proofs.ReadLaws.{amount-wanted, read-fine, read-done, read-one}
 use Rattle.requests.proofs.WriteLaws.{asked-variable, Grown, grown-is, settle-is, put-table, lengthened, write-allows, write-good, write-parent, write-within, write-lack}
@@ -183,9 +183,7 @@ module _ (b body : List ℕ) (id : ℕ) (position long : Amount) (x : Bool) (inp
     t' = tableAt p b' id
 
     named : Gate (namedTests b' id) 0
-    named =
-        let m = moves .parent in
-        named-fine b' p id (kept .0) t' refl (wordOf t') refl (m .word) (m .low) (m .high) (attributeOf t') refl (omega (arith, attribute', active))
+    named = state-fine b' p id (kept .0) 0 (moves .parent) (omega (arith, attribute', active))
 
     usable : Gate (bodyTests 8 b' body' id) 0
     usable =

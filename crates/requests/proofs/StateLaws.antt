@@ -1,9 +1,9 @@
 -- Temporary delete, recover and set protection: what a file's attribute and sector 1's counts allow, each way out, and that each promise
 -- allows one result. Assumes nothing.
-use mathlib.Core.Path.{_≡_, refl, sym, ap, _∙_}
-use mathlib.Core.Logic.{inl, inr, _≢_}
+use mathlib.Core.Path.{_≡_, refl, ap, _∙_}
+use mathlib.Core.Logic.{_≢_}
 use mathlib.Core.Bool.{Bool, true}
-use mathlib.Core.List.{List, []}
+use mathlib.Core.List.{List}
 use Prim.Native.Nat.{ℕ, _+_, _-_, _/_, _%_, _≤_, _<_}
 use native.Mathlib.Omega.{arith}
 use lib.ListN.{length}
@@ -21,13 +21,13 @@ use Rattle.tables.specs.Rules.R8.{directoryBit, systemBit}
 use Rattle.tables.specs.Rules.R9.{deletedBit, activeOne, deletedOne, systemOne, directoryOne}
 use Rattle.tables.specs.Views.{View, viewOf, Parent, tally}
 use Rattle.tables.proofs.CountLaws.{ones-active, ones-deleted}
-use Rattle.tables.proofs.GateLaws.{gate-one, gate-fails, gate-passes, gate-end, gate-stop, gate-skip, gate-rest, gate-head, gate-front}
+use Rattle.tables.proofs.GateLaws.{gate-one, gate-stop, gate-skip, gate-rest, gate-front}
 use Rattle.requests.specs.Create.{argumentTests}
-use Rattle.requests.specs.Named.{fileBytes, namedTests, usableTests}
-use Rattle.requests.specs.State.{putAttribute, putCounts, removed, recovered, protectionOf, protected, removeTests, Removed, removedTests, recoverTests, Recovered, ProtectAllowed, protectTests, Protected}
+use Rattle.requests.specs.Named.{stateTests, namedTests, usableTests}
+use Rattle.requests.specs.State.{putAttribute, putCounts, removed, recovered, protectionOf, protected, removeTests, Removed, recoverTests, Recovered, ProtectAllowed, protectTests, Protected}
 use Rattle.requests.proofs.RequestLaws.{after-refused, after-one, good-few}
 use Rattle.requests.proofs.CreateLaws.{argument-says, argument-allowed, argument-good, argument-room}
-use Rattle.requests.proofs.NamedLaws.{attribute-read, parent-read, named-active, usable-active}
+use Rattle.requests.proofs.NamedLaws.{state-file, usable-active}
 
 -- ---- what the rules say of a file's attribute, and of sector 1's counts
 
@@ -112,32 +112,6 @@ module _ (b : List ℕ) (p : Places) (f : ℕ) (g : Good b p) (h : Parent (viewO
     unfolding protected
     protect-is w r y date er ey = rw (ey, er, here)
 
--- ---- the tests of a file that is deleted: 8 as of an active one, then 9
-
-pub removed-eight : (b : List ℕ) (id : ℕ) → Gate (namedTests b id) 8 → Gate (removedTests b id) 8
-unfolding namedTests removedTests Gate
-removed-eight b id (inl (h, inl (k, e))) = absurd (omega arith)
-removed-eight b id (inl (h, inr (k, e, z))) = absurd (omega arith)
-removed-eight b id (inr h) = inr h
-
-module _ (b : List ℕ) (p : Places) (id : ℕ) (g : Good b p) (t : List ℕ) (is : t ≡ tableAt p b id) (w : ℕ) (word : w ≡ wordOf t) (same : w ≡ id) (low : 1 ≤ id) (high : id ≤ p .indexes) where
-  parent : Parent (viewOf (placesOf b) b) id
-  parent = parent-read b p id g t is w word same low high
-
-  pub removed-active : (a : ℕ) → a ≡ attributeOf t → a % 2 ≢ 1 → Gate (removedTests b id) 9
-  unfolding removedTests
-  removed-active a e ne = gate-passes 8 _ _ 9 parent (gate-fails 9 _ [] (omega arith) (λ z. ne (ap deletedBit (attribute-read b p id g t is a e) ∙ z)))
-
-  pub removed-fine : (a : ℕ) → a ≡ attributeOf t → a % 2 ≡ 1 → Gate (removedTests b id) 0
-  unfolding removedTests
-  removed-fine a e z = gate-passes 8 _ _ 0 parent (gate-passes 9 _ [] 0 (sym (ap deletedBit (attribute-read b p id g t is a e)) ∙ z) gate-end)
-
--- ---- what a number 0 says of the file
-
-named-deleted : (b : List ℕ) (id : ℕ) → Gate (removedTests b id) 0 → Parent (viewOf (placesOf b) b) id × (deletedBit (attributeOf (fileBytes b id)) ≡ 1)
-unfolding removedTests
-named-deleted b id h = let s = gate-head 8 (Parent (viewOf (placesOf b) b) id) _ h in (s .0, gate-head 9 _ [] (s .1) .0)
-
 -- ---- temporary delete and recover
 
 module _ (b : List ℕ) (id : ℕ) (date : List ℕ) where
@@ -154,7 +128,7 @@ module _ (b : List ℕ) (id : ℕ) (date : List ℕ) where
     unfolding recoverTests
     recover-stops ne = gate-stop (argumentTests b (Date date)) _ n (argument-says b a _ n s g) ne
 
-    pub recover-goes : (r : ℕ) → n ≡ 0 → Gate (removedTests b id) r → Gate (recoverTests b id date) r
+    pub recover-goes : (r : ℕ) → n ≡ 0 → Gate (stateTests 1 b id) r → Gate (recoverTests b id date) r
     unfolding recoverTests
     recover-goes r e h = gate-skip (argumentTests b (Date date)) _ n r (argument-says b a _ n s g) e h
 
@@ -192,7 +166,7 @@ module _ (b : List ℕ) (id : ℕ) (date : List ℕ) where
 
     pub recover-asks : (p : Places) → p ≡ placesOf b → Good b p × (Parent (viewOf p b) id × ((deletedBit (attributeOf (tableAt p b id)) ≡ 1) × (length date ≡ 6)))
     unfolding recoverTests
-    recover-asks p is = let f = named-deleted b id (gate-rest (argumentTests b (Date date)) _ (rw e at g)) in rw is (argument-good b (Date date) 0 recover-front refl, (f .0, (f .1, recover-valid .long)))
+    recover-asks p is = let f = state-file b id 1 (gate-rest (argumentTests b (Date date)) _ (rw e at g)) in rw is (argument-good b (Date date) 0 recover-front refl, (f .0, (f .1, recover-valid .long)))
 
   pub recover-refused : (n : ℕ) → Gate (recoverTests b id date) n → n ≢ 0 → Recovered b id date n b
   recover-refused n g h = record { number = g; books = after-refused n _ b h }
@@ -236,7 +210,7 @@ module _ (b : List ℕ) (id w : ℕ) (date : List ℕ) where
     pub protect-asks : (p : Places) → p ≡ placesOf b → Good b p × (Parent (viewOf p b) id × ((w ≤ 12) × (length date ≡ 6)))
     unfolding protectTests
     protect-asks p is =
-        let f = named-active b id (gate-rest (argumentTests b (ProtectAllowed w date)) _ (rw e at g)) in
+        let f = state-file b id 0 (gate-rest (argumentTests b (ProtectAllowed w date)) _ (rw e at g)) in
         rw is (argument-good b (ProtectAllowed w date) 0 protect-front refl, (f .0, (protect-valid .most, protect-valid .date' .long)))
 
   pub protect-refused : (n : ℕ) → Gate (protectTests b id w date) n → n ≢ 0 → Protected b id w date n b

@@ -7,7 +7,7 @@ use Rattle.tables.specs.declared.places.Places.{Places}
 use Rattle.tables.specs.Books.{Good}
 use Rattle.tables.specs.Places.{placesOf}
 use Rattle.tables.specs.Views.{viewOf, Parent}
-use Rattle.files.specs.Moves.{sectorBytes}
+use Rattle.files.specs.Moves.{sectorContent}
 use Rattle.files.specs.Unchanged.{Untouched, SamePlaces}
 use Rattle.requests.specs.History.{Volume, seen, Sound, Change, mount, dismount, createFixed, createVariable, grow, temporaryDelete, recover, actualDelete, setProtection, Changes, Request, asks, changes, write, Does, changedBy, namedBy, Belongs, PutsIn, ChangeDeletes, Deletes}
 use Rattle.requests.proofs.StepLeaves.{Leaves, leaves-same, mounted-leaves, dismounted-leaves, deleted-leaves}
@@ -32,12 +32,12 @@ step-leaves (asks q) v v' g (a, e) = leaves-same (v .books) g 0 _ (v' .books) (a
 step-leaves (changes c) v v' g (d, e) = change-leaves c (v .books) (v' .books) g d
 step-leaves (write id position long exchange input date) v v' g (r, h) = wrote-leaves v v' id position long exchange input date r h g _
 
-bytes-stay : (q : Request) (v v' : Volume) (d : Does q v v') (f k s : ℕ) → Belongs v' f k s → ((bytes : List ℕ) → PutsIn v v' q d f k bytes → ⊥) → sectorBytes (v' .body) s ≡ sectorBytes (v .body) s
-bytes-stay (asks q) v v' (a, e) f k s here unwritten = ap (λ (w : Volume). sectorBytes (w .body) s) e
-bytes-stay (changes c) v v' (d, e) f k s here unwritten = ap (λ (y : List ℕ). sectorBytes y s) e
+bytes-stay : (q : Request) (v v' : Volume) (d : Does q v v') (f k s : ℕ) → Belongs v' f k s → ((bytes : List ℕ) → PutsIn v v' q d f k bytes → ⊥) → sectorContent (v' .body) s ≡ sectorContent (v .body) s
+bytes-stay (asks q) v v' (a, e) f k s here unwritten = ap (λ (w : Volume). sectorContent (w .body) s) e
+bytes-stay (changes c) v v' (d, e) f k s here unwritten = ap (λ (y : List ℕ). sectorContent y s) e
 bytes-stay (write id position long exchange input date) v v' (r, h) f k s here unwritten = wrote-bytes v v' id position long exchange input date r h f k s here unwritten
 
-bytes-put : (q : Request) (v v' : Volume) (d : Does q v v') (f k : ℕ) (bytes : List ℕ) → PutsIn v v' q d f k bytes → (s : ℕ) × Belongs v' f k s × (sectorBytes (v' .body) s ≡ bytes)
+bytes-put : (q : Request) (v v' : Volume) (d : Does q v v') (f k : ℕ) (bytes : List ℕ) → PutsIn v v' q d f k bytes → (s : ℕ) × Belongs v' f k s × (sectorContent (v' .body) s ≡ bytes)
 bytes-put (asks q) v v' d f k bytes put = absurd put
 bytes-put (changes c) v v' d f k bytes put = absurd put
 bytes-put (write id position long exchange input date) v v' (r, h) f k bytes put = wrote-puts v v' id position long exchange input date r h f k bytes put
@@ -59,9 +59,9 @@ module _ (v v' : Volume) (sound : Sound v) (q : Request) (d : Does q v v') where
       subst (λ (p : Places). Parent (viewOf p (v' .books)) f × SamePlaces (seen v) (viewOf p (v' .books)) f) places (leaves .stands f parent kept)
 
   -- a sector of a file holds what it held, unless the request puts bytes there
-  pub step-bytes : (f k s : ℕ) → Belongs v' f k s → ((bytes : List ℕ) → PutsIn v v' q d f k bytes → ⊥) → sectorBytes (v' .body) s ≡ sectorBytes (v .body) s
+  pub step-bytes : (f k s : ℕ) → Belongs v' f k s → ((bytes : List ℕ) → PutsIn v v' q d f k bytes → ⊥) → sectorContent (v' .body) s ≡ sectorContent (v .body) s
   step-bytes f k s here unwritten = bytes-stay q v v' d f k s here unwritten
 
   -- and where it does, these bytes
-  pub step-puts : (f k : ℕ) (bytes : List ℕ) → PutsIn v v' q d f k bytes → (s : ℕ) × Belongs v' f k s × (sectorBytes (v' .body) s ≡ bytes)
+  pub step-puts : (f k : ℕ) (bytes : List ℕ) → PutsIn v v' q d f k bytes → (s : ℕ) × Belongs v' f k s × (sectorContent (v' .body) s ≡ bytes)
   step-puts f k bytes put = bytes-put q v v' d f k bytes put

@@ -15,7 +15,7 @@ use Rattle.tables.specs.Lawful.{Lawful}
 use Rattle.tables.specs.Places.{placesOf, Layout}
 use Rattle.tables.specs.Sector1.{flagOf}
 use Rattle.tables.specs.Views.{viewOf, Parent}
-use Rattle.files.specs.Moves.{moved, sectorBytes, piece, filled, Movable}
+use Rattle.files.specs.Moves.{moved, sectorContent, piece, filled, Movable}
 use Rattle.files.specs.Spots.{kthSector}
 use Rattle.files.specs.Unchanged.{Untouched, SamePlaces}
 use Rattle.files.proofs.MoveLaws.{filled-in, filled-out}
@@ -141,29 +141,29 @@ module _ (v v' : Volume) (id : ℕ) (position long : Amount) (x : Bool) (input d
       moves = asks .1 .1
 
       -- no written sector is another place's
-      some-bytes : (f k s : ℕ) → Belongs v' f k s → ((bytes : List ℕ) → Puts id position long x input r f k bytes → ⊥) → sectorBytes (v' .body) s ≡ sectorBytes (v .body) s
+      some-bytes : (f k s : ℕ) → Belongs v' f k s → ((bytes : List ℕ) → Puts id position long x input r f k bytes → ⊥) → sectorContent (v' .body) s ≡ sectorContent (v .body) s
       some-bytes f k s here unwritten =
           let in' = rw (here .here) at (kth-inside p' (v' .books) layout lawful f (here .file) k (here .place)) in
-          ap (λ (y : List ℕ). sectorBytes y s) body-is
+          ap (λ (y : List ℕ). sectorContent y s) body-is
           ∙ filled-out p' (v' .books) layout lawful id (at / 1024) (n / 1024) x input (v .body) moves s (in' .0) (in' .1) (λ i l e.
           (let q = place-one p' (v' .books) layout lawful id f (at / 1024 + i) k (moves .parent) (here .file) (omega (arith, moves .within)) (here .place) (e ∙ sym (here .here)) in
           unwritten _ (record { file = q .0; done = done; from = omega (arith, q .1); to = omega (arith, q .1); bytes' = refl })))
 
-      some-puts : (k : ℕ) → at / 1024 ≤ k → k < at / 1024 + sizeOf long / 1024 → Belongs v' id k (kthSector (seen v') id k) × (sectorBytes (v' .body) (kthSector (seen v') id k) ≡ moved x (piece input (k - at / 1024)))
+      some-puts : (k : ℕ) → at / 1024 ≤ k → k < at / 1024 + sizeOf long / 1024 → Belongs v' id k (kthSector (seen v') id k) × (sectorContent (v' .body) (kthSector (seen v') id k) ≡ moved x (piece input (k - at / 1024)))
       some-puts k lo hi =
           let there : at / 1024 + (k - at / 1024) ≡ k = omega arith in (
             record { file = moves .parent; place = omega (arith, moves .within); here = refl },
-            ap (λ (y : List ℕ). sectorBytes y (kthSector (seen v') id k)) body-is
+            ap (λ (y : List ℕ). sectorContent y (kthSector (seen v') id k)) body-is
                 ∙ rw there at (filled-in p' (v' .books) layout lawful id (at / 1024) (n / 1024) x input (v .body) moves (k - at / 1024) (omega arith)),
           )
 
-  pub wrote-bytes : (f k s : ℕ) → Belongs v' f k s → ((bytes : List ℕ) → Puts id position long x input r f k bytes → ⊥) → sectorBytes (v' .body) s ≡ sectorBytes (v .body) s
+  pub wrote-bytes : (f k s : ℕ) → Belongs v' f k s → ((bytes : List ℕ) → Puts id position long x input r f k bytes → ⊥) → sectorContent (v' .body) s ≡ sectorContent (v .body) s
   wrote-bytes f k s here unwritten = elim (ℕ-discrete (numberOf r) 0) [
-    | yes done ↦ elim (ℕ-discrete n 0) [ yes none ↦ ap (λ (y : List ℕ). sectorBytes y s) (none-same done none) | no some ↦ some-bytes done some f k s here unwritten ]
-    | no ne ↦ ap (λ (y : List ℕ). sectorBytes y s) (refused-same ne)
+    | yes done ↦ elim (ℕ-discrete n 0) [ yes none ↦ ap (λ (y : List ℕ). sectorContent y s) (none-same done none) | no some ↦ some-bytes done some f k s here unwritten ]
+    | no ne ↦ ap (λ (y : List ℕ). sectorContent y s) (refused-same ne)
   ]
 
-  pub wrote-puts : (f k : ℕ) (bytes : List ℕ) → Puts id position long x input r f k bytes → (s : ℕ) × Belongs v' f k s × (sectorBytes (v' .body) s ≡ bytes)
+  pub wrote-puts : (f k : ℕ) (bytes : List ℕ) → Puts id position long x input r f k bytes → (s : ℕ) × Belongs v' f k s × (sectorContent (v' .body) s ≡ bytes)
   wrote-puts f k bytes put =
       let p = some-puts (put .done) (λ e. omega (arith, put .from, put .to)) k (put .from) (put .to) in
       rw (← put .file, put .bytes') (kthSector (seen v') id k, p .0, p .1)

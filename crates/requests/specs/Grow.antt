@@ -19,7 +19,7 @@ use Rattle.requests.specs.declared.amount.Amount.the-variants.{Below, Is
 use Rattle.requests.specs.Answers.{after}
 use Rattle.requests.specs.Create.{argumentTests}
 use Rattle.requests.specs.Format.{sizeOf}
-use Rattle.requests.specs.Named.{fileBytes, namedTests, Unprotected}
+use Rattle.requests.specs.Named.{fileBytes, stateTests, namedTests, Unprotected}
 
 -- "below 0 is 7"
 abbrev pub NotBelow : Amount → Type 0
@@ -47,7 +47,7 @@ lackTests b id long =
 
 -- 8 to 13
 unfoldable pub fileTests : List ℕ → ℕ → ℕ → List Test
-unfolding namedTests kindTests lackTests
+unfolding stateTests kindTests lackTests
 fileTests b id long = namedTests b id ++ (kindTests b id ++ lackTests b id long)
 
 -- 1 to 5, 7, then these

@@ -10,7 +10,7 @@ use Rattle.tables.specs.Gates.{Gate}
 use Rattle.tables.specs.Places.{placesOf}
 use Rattle.tables.specs.Rules.R8.{fileSectors}
 use Rattle.tables.specs.Views.{View, viewOf, Parent}
-use Rattle.files.specs.Moves.{moved, sectorBytes, piece}
+use Rattle.files.specs.Moves.{moved, sectorContent, piece}
 use Rattle.files.specs.Spots.{kthSector}
 use Rattle.requests.specs.declared.amount.Amount.{Amount}
 use Rattle.requests.specs.declared.answer.Answer.{Answer}
@@ -146,7 +146,7 @@ pub record Belongs (v : Volume) (f k s : ℕ) : Type 0 where
 
 -- the bytes of place k of file f
 abbrev pub bytesAt : Volume → ℕ → ℕ → List ℕ
-bytesAt v f k = sectorBytes (v .body) (kthSector (seen v) f k)
+bytesAt v f k = sectorContent (v .body) (kthSector (seen v) f k)
 
 -- a write that is done puts these bytes at place k of file f
 pub record Puts (id : ℕ) (position long : Amount) (exchange : Bool) (input : List ℕ) (r : Answer) (f k : ℕ) (bytes : List ℕ) : Type 0 where

@@ -12,9 +12,13 @@ use Rattle.tables.specs.Rules.R9.{deletedBit}
 abbrev pub fileBytes : List ℕ → ℕ → List ℕ
 fileBytes b id = tableAt (placesOf b) b id
 
+-- 8, then 9: a file whose weight 1 is d: 0 where an active file is needed, 1 where a deleted one is
+unfoldable pub stateTests : ℕ → List ℕ → ℕ → List Test
+stateTests d b id = asks 8 (Parent (viewOf (placesOf b) b) id) ∷ asks 9 (deletedBit (attributeOf (fileBytes b id)) ≡ d) ∷ []
+
 -- an active file
-unfoldable pub namedTests : List ℕ → ℕ → List Test
-namedTests b id = asks 8 (Parent (viewOf (placesOf b) b) id) ∷ asks 9 (deletedBit (attributeOf (fileBytes b id)) ≡ 0) ∷ []
+abbrev pub namedTests : List ℕ → ℕ → List Test
+namedTests b id = stateTests 0 b id
 
 -- "weight 4 write-protected, 8 read-protected": the weight w is not in the file's attribute
 abbrev pub Unprotected : ℕ → List ℕ → ℕ → Type 0

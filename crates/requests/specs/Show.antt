@@ -4,7 +4,7 @@ use mathlib.Core.Path.{_≡_}
 use mathlib.Core.List.{List, [], _∷_, _++_}
 use Prim.Native.Nat.{ℕ, zero, suc}
 use Rattle.tables.specs.Gates.{Test, asks, Gate}
-use Rattle.files.specs.Moves.{bodyPlace, sectorBytes}
+use Rattle.files.specs.Moves.{bodyPlace, sectorContent}
 use Rattle.requests.specs.declared.show.Part.{Part}
 use Rattle.requests.specs.Answers.{useTests}
 use Rattle.requests.specs.Body.{bodyTests}
@@ -27,7 +27,7 @@ pub record ShownAt (b body : List ℕ) (id k : ℕ) (r : Part) : Type 0 where
 
 -- the part itself
 abbrev pub bytesOf : ℕ → List ℕ → ℕ → List ℕ
-bytesOf zero body s = sectorBytes body s
+bytesOf zero body s = sectorContent body s
 bytesOf (suc k) body s = []
 
 -- show's promise

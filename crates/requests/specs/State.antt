@@ -1,7 +1,7 @@
 -- Temporary delete, recover and set protection: a file's attribute changes, with its change date and the latest update, and where the file
 -- comes or goes sector 1's counts. Pointers and data stay.
 use mathlib.Core.Path.{_≡_}
-use mathlib.Core.List.{List, [], _∷_, _++_}
+use mathlib.Core.List.{List, _++_}
 use Prim.Native.Nat.{ℕ, _+_, _-_, _*_, _/_, _%_, _≤_}
 use Rattle.field.specs.Numbers.{putU16, putU32}
 use Rattle.field.specs.Parts.{over}
@@ -10,14 +10,12 @@ use Rattle.tables.specs.Dates.{Date}
 use Rattle.tables.specs.Indexes.{tableAt, attributeOf}
 use Rattle.tables.specs.Places.{placesOf}
 use Rattle.tables.specs.Sector1.{activeOf, deletedOf, systemOf, directoryOf}
-use Rattle.tables.specs.Gates.{Test, asks, Gate}
+use Rattle.tables.specs.Gates.{Test, Gate}
 use Rattle.tables.specs.Rules.R8.{directoryBit, systemBit}
-use Rattle.tables.specs.Rules.R9.{deletedBit}
-use Rattle.tables.specs.Views.{viewOf, Parent}
 use Rattle.allocation.specs.NewTables.{tablePlace}
 use Rattle.requests.specs.Answers.{after}
 use Rattle.requests.specs.Create.{argumentTests}
-use Rattle.requests.specs.Named.{fileBytes, namedTests, usableTests}
+use Rattle.requests.specs.Named.{stateTests, namedTests, usableTests}
 
 -- ---- the bytes
 
@@ -62,13 +60,9 @@ pub record Removed (b : List ℕ) (id : ℕ) (date : List ℕ) (r : ℕ) (b' : L
   pub number : Gate (removeTests b id date) r
   pub books : b' ≡ after r (removed (placesOf b) b id date) b
 
--- 8, then 9: "Recover and actual delete need a deleted file"
-unfoldable pub removedTests : List ℕ → ℕ → List Test
-removedTests b id = asks 8 (Parent (viewOf (placesOf b) b) id) ∷ asks 9 (deletedBit (attributeOf (fileBytes b id)) ≡ 1) ∷ []
-
--- 1 to 5, 7, then these
+-- 1 to 5, 7, then 8 and 9: "Recover and actual delete need a deleted file"
 unfoldable pub recoverTests : List ℕ → ℕ → List ℕ → List Test
-recoverTests b id date = argumentTests b (Date date) ++ removedTests b id
+recoverTests b id date = argumentTests b (Date date) ++ stateTests 1 b id
 
 -- recover's promise
 pub record Recovered (b : List ℕ) (id : ℕ) (date : List ℕ) (r : ℕ) (b' : List ℕ) : Type 0 where

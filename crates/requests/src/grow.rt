@@ -3,13 +3,15 @@ use crate::amount::Amount;
 use crate::create::argument_number;
 use crate::create::room_number;
 use crate::format::number_of;
-use crate::named::named_number;
+use crate::named::state_number;
 use allocation::file::grow_file;
 use allocation::file::only_counts;
 use allocation::last::cursor_of;
 use allocation::size::blocks_for;
 use tables::date::date_valid;
-use tables::index::attribute;
+use tables::entry::Kind;
+use tables::entry::Size;
+use tables::entry::decode;
 use tables::index::byte_length;
 use tables::index::table;
 use tables::kinds::Index;
@@ -46,14 +48,20 @@ fn kind_number(b: &[u8], p: Places, f: Index) -> u32
     requires { ⌜ Parent (viewOf p (now b)) (f .0) ⌝ }
     ensures { λ r. ⌜ Gate (kindTests (now (b .entry)) (f .0)) r ⌝ }
 {
-    let a = attribute(table(b, p, f));
-    if a / 4 % 2 != 0 {
+    let e = decode(b, p, f);
+    if e.attribute / 4 % 2 != 0 {
         return 10;
     }
-    if a / 16 % 2 != 1 {
-        return 11;
+    let kind = e.kind;
+    match kind {
+        Kind::Parent(size) => match size {
+            Size::Variable => 0,
+            Size::Fixed => 11,
+        },
+        Kind::Free => 11,
+        Kind::Child(_parent) => 11,
+        Kind::Broken => 11,
     }
-    0
 }
 
 // The blocks that file f lacks, by type.
@@ -83,7 +91,7 @@ fn file_number(b: &[u8], p: Places, id: u32, long: u32) -> u32
     requires { ⌜ Good (now b) p ⌝ }
     ensures { λ r. ⌜ Gate (fileTests (now (b .entry)) id long) r ⌝ }
 {
-    let n = named_number(b, p, id);
+    let n = state_number(b, p, id, 0);
     if n != 0 {
         return n;
     }

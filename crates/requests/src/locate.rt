@@ -1,5 +1,5 @@
 // Locate: the volume sector of a file's k-th sector.
-use crate::named::named_number;
+use crate::named::state_number;
 use crate::space::use_number;
 use allocation::size::file_sectors;
 use files::spot::sector_of;
@@ -40,7 +40,7 @@ fn locate_number(b: &[u8], id: u32, k: u32) -> u32
         return n;
     }
     let p = read_places(b);
-    let m = named_number(b, p, id);
+    let m = state_number(b, p, id, 0);
     if m != 0 {
         return m;
     }

@@ -1,39 +1,14 @@
 // Recover: a temporarily deleted file is active again.
 use crate::create::argument_number;
+use crate::named::state_number;
 use crate::state::restore;
 use tables::date::date_valid;
-use tables::index::attribute;
-use tables::index::first_word;
-use tables::index::table;
 use tables::kinds::Index;
-use tables::places::Places;
 use tables::places::read_places;
 ghost use Rattle.tables.specs.Gates.{Gate};
-ghost use Rattle.tables.specs.Books.{Good};
-ghost use Rattle.requests.specs.State.{removedTests, recoverTests, Recovered};
+ghost use Rattle.requests.specs.State.{recoverTests, Recovered};
 
-// Numbers 8 and 9: a file that is deleted.
-fn removed_number(b: &[u8], p: Places, id: u32) -> u32
-    requires { ⌜ Good (now b) p ⌝ }
-    ensures { λ r. ⌜ Gate (removedTests (now (b .entry)) id) r ⌝ }
-{
-    if id < 1 {
-        return 8;
-    }
-    if id > p.indexes {
-        return 8;
-    }
-    let t = table(b, p, Index(id));
-    if first_word(t) != id {
-        return 8;
-    }
-    if attribute(t) % 2 != 1 {
-        return 9;
-    }
-    0
-}
-
-// Numbers 1 to 5, 7, and these.
+// Numbers 1 to 5, 7, then 8 and 9: a file that is deleted.
 pub fn recover_number(b: &[u8], id: u32, date: &[u8]) -> u32
     ensures { λ r. ⌜ Gate (recoverTests (now (b .entry)) id (now (date .entry))) r ⌝ }
 {
@@ -41,7 +16,7 @@ pub fn recover_number(b: &[u8], id: u32, date: &[u8]) -> u32
     if n != 0 {
         return n;
     }
-    removed_number(b, read_places(b), id)
+    state_number(b, read_places(b), id, 1)
 }
 
 pub fn recover(b: &mut [u8], id: u32, date: &[u8]) -> u32

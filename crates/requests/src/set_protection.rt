@@ -1,6 +1,6 @@
 // Set protection: weights 4 and 8 of an active file's attribute.
 use crate::create::argument_number;
-use crate::named::named_number;
+use crate::named::state_number;
 use crate::state::protect;
 use tables::date::date_valid;
 use tables::kinds::Index;
@@ -29,7 +29,7 @@ fn protect_number(b: &[u8], id: u32, w: u32, date: &[u8]) -> u32
     if n != 0 {
         return n;
     }
-    named_number(b, read_places(b), id)
+    state_number(b, read_places(b), id, 0)
 }
 
 pub fn set_protection(b: &mut [u8], id: u32, w: u32, date: &[u8]) -> u32

@@ -4,7 +4,7 @@ use Rattle.requests.proofs.named.usable_number.Statement.{statement}
 use Rattle.requests.proofs.named.usable_number.Tie as tie
 
 table-requires : tie.Need-table-requires
-table-requires c κs = named-table _ _ _ _ (c .before .before .before .pre .0) (c .before .named-number .ensures) (c .if1 .left)
+table-requires c κs = named-table _ _ _ _ (c .before .before .before .pre .0) (c .before .state-number .ensures) (c .if1 .left)
 
 pub usable-number-spec : {M : Type 1} → statement M
 usable-number-spec =

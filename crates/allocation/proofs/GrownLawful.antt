@@ -1,39 +1,32 @@
 -- A file that grows: where its pointers end, how many blocks it lacks, and that the books meet the nine rules again. Assumes nothing.
-use mathlib.Core.Path.{_≡_, refl, sym, ap, ap₂, _∙_}
-use mathlib.Core.Logic.{_≢_, inl, inr}
+use mathlib.Core.Path.{_≡_, refl, ap, _∙_}
+use mathlib.Core.Logic.{inl, inr}
 use mathlib.Core.List.{List}
-use Prim.Native.Nat.{ℕ, suc, _+_, _-_, _*_, _≤_, _<_}
+use Prim.Native.Nat.{ℕ, _+_, _-_, _*_, _≤_, _<_}
 use native.Mathlib.Nat.{mul-comm, mul-assoc}
-use native.Mathlib.Decide.{ℕ-discrete}
 use native.Mathlib.Omega.{arith}
 use lib.ListN.{length}
 use Rattle.field.specs.Numbers.{putU32}
 use Rattle.field.specs.Kept.{Kept}
 use Rattle.field.specs.Parts.{over}
-use Rattle.field.proofs.Frames.{kept-refl, kept-trans, kept-wider}
+use Rattle.field.proofs.Frames.{kept-trans, kept-wider}
 use Rattle.field.proofs.NumberLaws.{u16-kept, u32-kept, kept-putU32, u32-put-same}
 use Rattle.field.proofs.PartLaws.{kept-over, over-part, same-at}
-use Rattle.field.proofs.Sums.{sum-same}
 use Rattle.tables.specs.declared.places.Places.{Places}
-use Rattle.tables.specs.Kinds.{zoneOf}
 use Rattle.tables.specs.Blocks.{Typed, blockOf}
 use Rattle.tables.specs.Counts.{blockBytes}
 use Rattle.tables.specs.Dates.{Date}
 use Rattle.tables.specs.Places.{Layout}
-use Rattle.tables.specs.Same.{Ground}
-use Rattle.tables.specs.Indexes.{tableAt, wordOf, parentOf, nameOf, createdOf, changedOf, lengthOf, attributeOf, minus, slotsOf, baseOf, startOf, countOf, Used, sectorsOf, fileOf}
-use Rattle.tables.specs.Views.{View, viewOf, Parent, Child, walk, next, cov, overOf, Under}
-use Rattle.tables.specs.Rules.R5.{Stands}
+use Rattle.tables.specs.Indexes.{tableAt, nameOf, createdOf, changedOf, lengthOf, attributeOf, Used}
+use Rattle.tables.specs.Views.{View, viewOf, Parent}
 use Rattle.tables.specs.Rules.R8.{fileSectors, fileType, OneType, variableBit, File}
 use Rattle.tables.specs.Lawful.{Lawful}
 use Rattle.tables.proofs.BlockLaws.{block-of}
 use Rattle.tables.proofs.ChoiceLaws.{ceil-enough}
-use Rattle.tables.proofs.CountLaws.{only-eq}
-use Rattle.tables.proofs.SameLaws.{ground-R2, ground-R3}
 use Rattle.tables.proofs.FrameLaws.{table-kept, sector1-same, sector1-tails}
-use Rattle.tables.proofs.IndexLaws.{length-table, base-parent}
+use Rattle.tables.proofs.IndexLaws.{length-table}
 use Rattle.allocation.specs.Last.{lastTable, usedPointers, lastPlace, cursorOf}
-use Rattle.allocation.specs.Held.{Shapely, Held, Ends, InType, nothing}
+use Rattle.allocation.specs.Held.{Held, Ends, nothing}
 use Rattle.allocation.specs.Steps.{SameCounts}
 use Rattle.allocation.specs.Choice.{inOrder, inTurn}
 use Rattle.allocation.specs.NewTables.{tablePlace}
@@ -48,8 +41,9 @@ use Rattle.allocation.proofs.HeldLawful.{held-rules, quiet-R1, calm-qui
 use Rattle.allocation.proofs.AddHeld.{adds-held}
 use Rattle.allocation.proofs.TableLaws.{table-put32, table-over, table-other}
 use Rattle.allocation.proofs.StepLaws.{Still, still-table}
-use Rattle.allocation.proofs.PointerBytes.{word-kept, parent-kept, slots-kept, file-kept, start-kept, count-kept}
-use Rattle.allocation.proofs.ChangeLaws.{Changed, Stays, stays-same, member-begins, parent-file, ground-run, walk-stays, chain-stays, parent-there, begins-was, stay-R4, changed-R5, changed-R6, pointers-at, sectors-at, under-zone, changed-types, changed-R8, stay-R9}
+use Rattle.allocation.proofs.PointerBytes.{word-kept}
+use Rattle.allocation.proofs.ChangeLaws.{stay-R9}
+use Rattle.allocation.proofs.RestatedLaws.{Restated, restated-parent, restated-change, restated-used, restated-sectors, restated-held, restated-types}
 
 -- ---- where file f goes on
 
@@ -104,124 +98,15 @@ blocks-enough v f long typed =
 
 -- of file f's parent only bytes 34 to 43, the change date and the byte length, are others
 pub record Resized (v v' : View) (f : ℕ) : Type 0 where
-  pub ground : Ground v v'
-  pub indexes : v' .indexes ≡ v .indexes
-  pub head : v' .head ≡ v .head
+  pub restated : Restated v v' f
+  pub attribute : attributeOf (v' .table f) ≡ attributeOf (v .table f)
   pub free : v' .free ≡ v .free
   pub counts : SameCounts v v'
-  pub here : Kept (v .table f) (v' .table f) 34 10
-  pub there : (j : ℕ) → 1 ≤ j → j ≤ v .indexes → j ≢ f → v' .table j ≡ v .table j
 
-module _ (v v' : View) (f : ℕ) (w : Resized v v' f) (few : v .indexes ≤ 4096) (parent : Parent v f) (h : Held v f nothing) where
-  abbrev t : List ℕ
-  t = v .table f
-
-  abbrev t' : List ℕ
-  t' = v' .table f
-
-  base : baseOf f t ≡ 64
-  base = base-parent f t (parent .word)
-
-  same-slots : slotsOf f t' ≡ slotsOf f t
-  same-slots = slots-kept f (w .here) (omega arith)
-
-  same-start : (j : ℕ) → startOf f t' j ≡ startOf f t j
-  same-start j = start-kept f (w .here) (omega arith) j (inr (omega (arith, base)))
-
-  same-count : (j : ℕ) → countOf f t' j ≡ countOf f t j
-  same-count j = count-kept f (w .here) (omega arith) j (inr (omega (arith, base)))
-
-  same-over : (s : ℕ) → overOf f t' s ≡ overOf f t s
-  unfolding overOf
-  same-over s = rw same-slots (sum-same (slotsOf f t) _ _ (λ j l. ap₂ (λ (a c : ℕ). cov a c s) (same-start j) (same-count j)))
-
-  same-own : sectorsOf f t' ≡ sectorsOf f t
-  unfolding sectorsOf
-  same-own = rw same-slots (sum-same (slotsOf f t) _ _ (λ j l. same-count j))
-
-  change : Changed v v' f f
-  change = record {
-    ground = w .ground;
-    indexes = w .indexes;
-    few = few;
-    file = parent .low;
-    low = parent .low;
-    high = parent .high;
-    kept = λ j lo hi ne. rw (w .there j lo hi ne) (kept-refl (v .table j) 124 4);
-    there = λ j lo hi ne nf. w .there j lo hi ne;
-    was = inl (parent-file v f parent);
-    now = file-kept f (w .here) (omega arith) ∙ parent-file v f parent;
-    word = inl (word-kept f (w .here) (omega arith) ∙ parent .word);
-  }
-
-  resized-parent : Parent v' f
-  resized-parent = record { low = parent .low; high = rw (w .indexes) (parent .high); word = word-kept f (w .here) (omega arith) ∙ parent .word }
-
-  resized-used : Used f t 0 → Used f t' 0
-  resized-used u = rw (same-start 0, same-count 0) u
-
-  stays-own : Stays v v' f
-  stays-own = record {
-    link = u32-kept 124 (w .here) (inr (omega arith));
-    word = word-kept f (w .here) (omega arith);
-    parent = parent-kept f (w .here) (omega arith);
-    full = λ full j l. (let l' : j < slotsOf f t = rw same-slots at l in rw (same-start j, same-count j) (full j l'));
-  }
-
-  stays : (k : ℕ) → k < suc (h .r5 .long f) → Stays v v' (walk (next v) f k)
-  stays k l =
-      let b = member-begins v few f (h .r5 .long f) parent (h .r5 .chain f parent) k l .1 in
-      elim (ℕ-discrete (walk (next v) f k) f) [ yes e ↦ rw e stays-own | no ne ↦ stays-same v v' _ (w .there _ (b .low) (b .high) ne) ]
-
-  own-stands : (c : ℕ) → Child v' c → parentOf (v' .table c) ≡ f → Stands v' f (h .r5 .long f) c
-  own-stands c b e =
-      let hi : c ≤ v .indexes = rw (w .indexes) at (b .high) in
-      let ne : c ≢ f = λ q. (let z : minus c ≡ c = sym (b .word) ∙ ap (λ (i : ℕ). wordOf (v' .table i)) q ∙ resized-parent .word ∙ sym q in omega arith) in
-      let q : parentOf (v .table c) ≡ f = sym (parent-there v v' f f change c (b .low) hi ne) ∙ e in
-      let o = rw q at (h .r5 .stands c (begins-was v v' f f change c (b .low) hi ne (minus c) b)) in
-      record {
-        parent = resized-parent;
-        place = o .place;
-        below = o .below;
-        here = walk-stays v v' (w .indexes) f (h .r5 .long f) (h .r5 .chain f parent) stays (suc (o .place)) (omega (arith, o .below)) ∙ o .here;
-      }
-
-  own-shape : Shapely v' f f t'
-  own-shape =
-      let s = h .r6 f (omega (arith, parent .high)) (parent .low) in
-      record {
-        first = λ j l u. (let l' : suc j < slotsOf f t = rw same-slots at l in rw (same-start j, same-count j) (s .first j l' (rw (same-start (suc j), same-count (suc j)) at u)));
-        used = λ j l u. (let l' : j < slotsOf f t = rw same-slots at l in
-            rw (same-start j, same-count j) (ground-run v v' (w .ground) _ _ (s .used j l' (rw (same-start j, same-count j) at u))));
-        one = λ e ne. absurd (ne refl);
-        header = λ e k l. w .here .out (58 + k) (inr (omega arith)) ∙ s .header (parent .word) k l;
-      }
-
-  resized-held : Held v' f nothing
-  resized-held = record {
-    r2 = ground-R2 v v' (w .ground) (h .r2);
-    r3 = ground-R3 v v' (w .ground) (h .r3);
-    r4 = stay-R4 v v' f f change (w .head) (λ z. omega (arith, parent .low, parent .word)) (h .r4);
-    r5 = changed-R5 v v' f f change (h .r5) (h .r5 .long f) (chain-stays v v' (w .indexes) f (h .r5 .long f) (h .r5 .chain f parent) stays) own-stands
-        (λ b. absurd (omega (arith, b .word, resized-parent .word, b .high, w .indexes)));
-    r6 = changed-R6 v v' f f change own-shape (h .r6);
-    r7 = λ s l lo. (let l' : s < 1024 * (v .zones - 1) = rw (w .ground .zones) at l in
-        omega (arith, pointers-at v v' f f change s, same-over s, h .r7 s l' lo, w .ground .bit s (omega arith)));
-    r8 = changed-R8 v v' f f change (h .r6) (h .r8);
-    r9 = stay-R9 v v' f f change (word-kept f (w .here) (omega arith)) (λ e. u16-kept 44 (w .here) (inr (omega arith))) (w .counts) (w .free) (h .r9);
-  }
-
-  resized-sectors : fileSectors v' f ≡ fileSectors v f
-  resized-sectors = omega (arith, sectors-at v v' f f change, only-eq (fileOf f t) f (sectorsOf f t) (parent-file v f parent), same-own)
-
-  resized-types : (y : ℕ) → InType v f y → InType v' f y
-  resized-types y all = changed-types v v' f f change (h .r6) y all new
-    where
-      new : (j s : ℕ) → Under v' f j s → v' .zone (zoneOf s) .ztype ≡ y
-      new j s u =
-          let o : Under v f j s
-          = record { low = parent .low; high = parent .high; slot = rw same-slots at (u .slot); from = rw (same-start j) at (u .from); to = rw (same-start j, same-count j) at (u .to) } in
-          rw (under-zone v v' f f change (h .r6) f j s o) (all f j s (parent-file v f parent) o)
+resized-held : (v v' : View) (f : ℕ) → Resized v v' f → v .indexes ≤ 4096 → Parent v f → Held v f nothing → Held v' f nothing
+resized-held v v' f w few parent h =
+    restated-held v v' f (w .restated) few parent h
+    (stay-R9 v v' f f (restated-change v v' f (w .restated) few parent) (word-kept f (w .restated .here) (omega arith)) (λ e. w .attribute) (w .counts) (w .free) (h .r9))
 
 -- ---- as bytes
 
@@ -281,9 +166,14 @@ module _ (p : Places) (b : List ℕ) (f long : ℕ) (date : List ℕ) (lay : Lay
         let g = sector1-same y z status p lay-y (u32-kept 1050 z-kept (inr (omega arith))) in
         let k = still .calm .ground in
         record {
-          ground = record { zones = refl; zone = λ n low high. g .zone n low high ∙ k .zone n low high; bit = λ s l. g .bit s l ∙ k .bit s l };
-          indexes = refl;
-          head = g .head ∙ still .head;
+          restated = record {
+            ground = record { zones = refl; zone = λ n low high. g .zone n low high ∙ k .zone n low high; bit = λ s l. g .bit s l ∙ k .bit s l };
+            indexes = refl;
+            head = g .head ∙ still .head;
+            here = rw z-new (kept-wider new-kept (omega arith) (omega arith));
+            there = λ j low high ne. z-table j ∙ table-other p f j y-kept lo low ne;
+          };
+          attribute = rw z-new (u16-kept 44 new-kept (inr (omega arith)));
           free = u32-kept 1036 z-kept (inl (omega arith)) ∙ still .free;
           counts = record {
             active = u32-kept 1028 z-kept (inl (omega arith)) ∙ still .counts .active;
@@ -292,8 +182,6 @@ module _ (p : Places) (b : List ℕ) (f long : ℕ) (date : List ℕ) (lay : Lay
             directory = u16-kept 1042 z-kept (inl (omega arith)) ∙ still .counts .directory;
             flag = u16-kept 1054 z-kept (inr (omega arith)) ∙ still .counts .flag;
           };
-          here = rw z-new new-kept;
-          there = λ j low high ne. z-table j ∙ table-other p f j y-kept lo low ne;
         }
 
     z-quiet : Quiet p b z
@@ -331,7 +219,7 @@ module _ (p : Places) (b : List ℕ) (f : ℕ) (counts : List ℕ) (long : ℕ) 
   quiet = quiet-trans (h .quiet) (length-quiet p a f long date lay-a (parent .low) (parent .high) six)
 
   now-parent : Parent (viewOf p c) f
-  now-parent = resized-parent (viewOf p a) (viewOf p c) f resized (lay .few) (h .ends .parent) (h .held)
+  now-parent = restated-parent (viewOf p a) (viewOf p c) f (resized .restated) (h .ends .parent)
 
   fields : Fields (tableAt p c f) (nameOf (tableAt p b f)) (createdOf (tableAt p b f)) date long (attributeOf (tableAt p b f))
   fields =
@@ -344,12 +232,12 @@ module _ (p : Places) (b : List ℕ) (f : ℕ) (counts : List ℕ) (long : ℕ) 
   held = resized-held (viewOf p a) (viewOf p c) f resized (lay .few) (h .ends .parent) (h .held)
 
   sectors : fileSectors (viewOf p c) f ≡ fileSectors (viewOf p b) f + sectorsIn (inOrder counts)
-  sectors = resized-sectors (viewOf p a) (viewOf p c) f resized (lay .few) (h .ends .parent) (h .held) ∙ h .sectors
+  sectors = restated-sectors (viewOf p a) (viewOf p c) f (resized .restated) (lay .few) (h .ends .parent) ∙ h .sectors
 
   used : Used f (tableAt p c f) 0
   used =
       let some = some-sectors (viewOf p b) f (rules-held p b f old) parent (was-used p b f old parent) in
-      resized-used (viewOf p a) (viewOf p c) f resized (lay .few) (h .ends .parent) (h .held)
+      restated-used (viewOf p a) (viewOf p c) f (resized .restated) (lay .few) (h .ends .parent)
       (ends-used (viewOf p a) f (lay .few) (h .held .r5) (g .cursor) (h .ends) (h .held .r4 .own) (omega (arith, h .sectors, some)))
 
   module _ (valid : Date date) (variable : variableBit (attributeOf (tableAt p b f)) ≡ 1) (all : AllOf (inOrder counts) (fileType (viewOf p b) f)) (least : long < 2147483648)
@@ -360,7 +248,7 @@ module _ (p : Places) (b : List ℕ) (f : ℕ) (counts : List ℕ) (long : ℕ) 
     one : OneType (viewOf p c) f
     one =
         let t = fileType (viewOf p b) f in
-        in-one (viewOf p c) f held now-parent used t (resized-types (viewOf p a) (viewOf p c) f resized (lay .few) (h .ends .parent) (h .held) t
+        in-one (viewOf p c) f held now-parent used t (restated-types (viewOf p a) (viewOf p c) f (resized .restated) (lay .few) (h .ends .parent) (h .held) t
         (h .types t all (was-file .variable variable)))
 
     lawful : Lawful p c
@@ -388,6 +276,10 @@ module _ (p : Places) (b : List ℕ) (f : ℕ) (counts : List ℕ) (has : Provid
     pub grown-long : lengthOf (tableAt p (grown p b f counts long date) f) ≡ long
     unfolding grown
     grown-long = fields p b f counts long date (has .layout) (has .lawful) parent six _ grown-lengthened .long'
+
+    pub grown-attribute : attributeOf (tableAt p (grown p b f counts long date) f) ≡ attributeOf (tableAt p b f)
+    unfolding grown
+    grown-attribute = fields p b f counts long date (has .layout) (has .lawful) parent six _ grown-lengthened .attribute'
 
 pub grown-lawful : (p : Places) (b : List ℕ) (f : ℕ) (counts : List ℕ) (long : ℕ) (date : List ℕ) → Provided p b (cursorOf p b f .tail) counts → Parent (viewOf p b) f
     → variableBit (attributeOf (tableAt p b f)) ≡ 1 → AllOf (inOrder counts) (fileType (viewOf p b) f) → Date date → long < 2147483648

@@ -28,4 +28,5 @@ pub mod FreshView
 pub mod AddHeld
 pub mod HeldLawful
 pub mod CreatedLawful
+pub mod RestatedLaws
 pub mod GrownLawful

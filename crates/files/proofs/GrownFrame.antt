@@ -36,7 +36,8 @@ use Rattle.allocation.proofs.EndsLaws.{end-file, end-some}
 use Rattle.allocation.proofs.ReadyLaws.{Taking, add-is, laid-is, here-is, further-is, pointed-here, pointed-further, here-written, first-free, further-extended, step-taking, ready-step}
 use Rattle.allocation.proofs.AddHeld.{add-held}
 use Rattle.allocation.proofs.FileLaws.{provided-head, started-made, ready-start, ready-grow}
-use Rattle.allocation.proofs.GrownLawful.{rules-held, cursor-ends, Resized, length-resized, grown-lengthened}
+use Rattle.allocation.proofs.RestatedLaws.{Restated}
+use Rattle.allocation.proofs.GrownLawful.{rules-held, cursor-ends, length-resized, grown-lengthened}
 use Rattle.files.specs.Unchanged.{Untouched, SamePlaces}
 use Rattle.files.proofs.UntouchedLaws.{untouched-refl, untouched-trans, stated-untouched, stated-follows}
 use Rattle.files.proofs.FollowLaws.{FileFollows, file-stays, file-trans, follows-places}
@@ -182,23 +183,23 @@ module _ (p : Places) (b : List ℕ) (f : ℕ) (counts : List ℕ) (long : ℕ) 
   lengthened : Lengthened p f begun grew (inOrder counts)
   lengthened = grown-lengthened p b f counts has parent
 
-  resized : Resized (viewOf p (grew .books)) (viewOf p (putLength p (grew .books) f long date)) f
-  resized = length-resized p (grew .books) f long date (rw (lengthened .quiet .len) (has .layout)) (parent .low) (parent .high) six
+  restated : Restated (viewOf p (grew .books)) (viewOf p (putLength p (grew .books) f long date)) f
+  restated = length-resized p (grew .books) f long date (rw (lengthened .quiet .len) (has .layout)) (parent .low) (parent .high) six .restated
 
   pub grown-untouched : Untouched (viewOf p b) (viewOf p (grown p b f counts long date)) f
   unfolding grown
   grown-untouched =
       untouched-trans (viewOf p b) (viewOf p (grew .books)) _ f (adds-untouched p f (inOrder counts) begun ready (end-file (viewOf p b) (has .layout .few) f (cursorOf p b f) ends))
-      (stated-untouched (viewOf p (grew .books)) _ f refl (lengthened .ends .parent) (resized .there)
-      (λ o l. resized .here .out o (inl (omega arith))) (λ o l. resized .here .out o (inr (omega arith))))
+      (stated-untouched (viewOf p (grew .books)) _ f refl (lengthened .ends .parent) (restated .there)
+      (λ o l. restated .here .out o (inl (omega arith))) (λ o l. restated .here .out o (inr (omega arith))))
 
   pub grown-places : SamePlaces (viewOf p b) (viewOf p (grown p b f counts long date)) f
   unfolding grown
   grown-places =
       follows-places (viewOf p b) _ f refl (file-trans (viewOf p b) (viewOf p (grew .books)) _ f refl
       (adds-follow p f (inOrder counts) begun ready (rules-held p b f (has .lawful)) ends)
-      (stated-follows (viewOf p (grew .books)) _ f refl (lengthened .ends .parent) (resized .there)
-      (λ o l. resized .here .out o (inl (omega arith))) (λ o l. resized .here .out o (inr (omega arith)))))
+      (stated-follows (viewOf p (grew .books)) _ f refl (lengthened .ends .parent) (restated .there)
+      (λ o l. restated .here .out o (inl (omega arith))) (λ o l. restated .here .out o (inr (omega arith)))))
       (has .lawful .r4) (has .lawful .r5) (has .lawful .r6) (has .layout .few) parent
 
 -- ---- a new file, which is no file that was there

@@ -1,15 +1,12 @@
 -- A read after a write gives the bytes back, by the promises of both. Assumes nothing.
 use mathlib.Core.Path.{_≡_, refl, sym, ap, _∙_}
-use mathlib.Core.Logic.{_≢_, inr}
+use mathlib.Core.Logic.{_≢_}
 use mathlib.Core.Bool.{Bool, true}
 use mathlib.Core.List.{List, []}
-use Prim.Native.Nat.{ℕ, _+_, _-_, _*_, _/_, _%_, _≤_, _<_}
-use native.Mathlib.Decide.{ℕ-discrete, decLt}
+use Prim.Native.Nat.{ℕ, _+_, _-_, _*_, _/_, _%_, _≤_}
+use native.Mathlib.Decide.{ℕ-discrete}
 use native.Mathlib.Omega.{arith}
-use lib.ListN.{getD, length, take}
-use borrow.Author.Tests.{lt-ltb, le-ltb}
-use Rattle.field.specs.Parts.{over}
-use Rattle.field.proofs.NumberLaws.{u16-kept, kept-putU32}
+use lib.ListN.{length, take}
 use Rattle.tables.specs.declared.places.Places.{Places}
 use Rattle.tables.specs.Books.{Good, bookTests}
 use Rattle.tables.specs.Gates.{Gate}
@@ -21,9 +18,6 @@ use Rattle.tables.specs.Rules.R9.{deletedBit}
 use Rattle.tables.specs.Sector1.{flagOf}
 use Rattle.tables.specs.Views.{viewOf, Parent}
 use Rattle.tables.proofs.GateLaws.{gate-rest, gate-head, gate-front}
-use Rattle.tables.proofs.IndexLaws.{length-table}
-use Rattle.allocation.specs.Files.{putLength, grown}
-use Rattle.allocation.proofs.HeldLawful.{table-fields, fields-front}
 use Rattle.files.specs.Moves.{filled, fetched, Movable}
 use Rattle.files.proofs.MoveLaws.{read-back}
 use Rattle.requests.specs.declared.amount.Amount.{Amount}
@@ -33,45 +27,17 @@ use Rattle.requests.specs.Answers.{numberOf, useTests}
 use Rattle.requests.specs.Body.{bodyTests}
 use Rattle.requests.specs.Create.{argumentTests}
 use Rattle.requests.specs.Format.{sizeOf}
-use Rattle.requests.specs.Grow.{growCounts, lackTests, grownTo}
+use Rattle.requests.specs.Grow.{lackTests, grownTo}
 use Rattle.requests.specs.Named.{fileBytes, namedTests, Unprotected}
 use Rattle.requests.specs.Read.{wholeSectors, endOf, MoveAllowed, readTests, ReadOut}
 use Rattle.requests.specs.Write.{WriteAllowed, askedLength, moveTests, writeTests, settle, writtenBooks, writtenBody, Wrote}
 use Rattle.requests.proofs.MountLaws.{use-fine}
 use Rattle.requests.proofs.CreateLaws.{argument-fine}
 use Rattle.requests.proofs.NamedLaws.{state-fine, usable-active, usable-fine, body-goes, body-usable}
-use Rattle.requests.proofs.StampLaws.{table-dated, same-counted, put-fields}
+use Rattle.requests.proofs.StampLaws.{same-counted, put-fields}
 use Rattle.requests.proofs.ReadLaws.{amount-wanted, read-fine, read-done, read-one}
-use Rattle.requests.proofs.WriteLaws.{asked-variable, Grown, grown-is, settle-is, put-table, lengthened, write-allows, write-good, write-parent, write-within, write-lack}
+use Rattle.requests.proofs.WriteLaws.{asked-variable, Grown, grown-is, settle-is, write-allows, write-good, write-parent, write-within, write-lack}
 use Rattle.requests.proofs.WriteKeeps.{some-written, grown-good, settles, written-flag, wrote-asks, wrote-keeps}
-
--- ---- a file that grows keeps its attribute
-
--- books c have b's length and the first 58 bytes of f's table, then the byte length is written
-length-attribute : (p : Places) (b c : List ℕ) (f long : ℕ) (date : List ℕ) → Layout p (length b) → length c ≡ length b → ((o : ℕ) → o < 58 → getD (tableAt p c f) o 0 ≡ getD (tableAt p b f) o 0)
-    → 1 ≤ f → f ≤ p .indexes → length date ≡ 6 → attributeOf (tableAt p (putLength p c f long date) f) ≡ attributeOf (tableAt p b f)
-length-attribute p b c f long date lay len front lo hi six =
-    let lay-c : Layout p (length c) = rw len lay in
-    ap attributeOf (put-table p c f long date lay-c lo hi six) ∙ u16-kept 44 (kept-putU32 (over (tableAt p c f) 34 date) 40 long) (inr (omega arith))
-    ∙ u16-kept 44 (table-dated p c f date lay-c lo hi six) (inr (omega arith))
-    ∙ fields-front (length-table p c f lay-c lo hi) front (table-fields (tableAt p b f) (length-table p b f lay lo hi)) .attribute'
-
-module _ (b : List ℕ) (id long : ℕ) (date : List ℕ) (g : Good b (placesOf b)) (parent : Parent (viewOf (placesOf b) b) id) (room : Gate (lackTests b id long) 0) (six : length date ≡ 6) where
-  abbrev t : List ℕ
-  t = fileBytes b id
-
-  longer-attribute : lengthOf t < long → attributeOf (tableAt (placesOf b) (grown (placesOf b) b id (growCounts b id long) long date) id) ≡ attributeOf t
-  unfolding grown
-  longer-attribute l =
-      let h = lengthened b id long date g parent room six l in
-      length-attribute (placesOf b) b _ id long date (g .layout) (h .quiet .len) (h .front) (parent .low) (parent .high) six
-
-  grown-attribute : attributeOf (tableAt (placesOf b) (grownTo b id long date) id) ≡ attributeOf t
-  unfolding grownTo
-  grown-attribute = elim (decLt (lengthOf t) long) [
-    | yes l ↦ rw (lt-ltb (lengthOf t) long l) (longer-attribute l)
-    | no nl ↦ rw (le-ltb (lengthOf t) long (omega arith)) refl
-  ]
 
 -- ---- the write, done, for some bytes
 
@@ -151,7 +117,7 @@ module _ (b body : List ℕ) (id : ℕ) (position long : Amount) (x : Bool) (inp
       let put = settle-is b₁ p (g₁ .places) id (tableAt p b₁ id) a₁ date _ refl refl refl in
       ap (λ (c : List ℕ). attributeOf (tableAt p c id)) (books-settled ∙ sym put)
       ∙ put-fields p b₁ b₁ id (a₁ - a₁ / 2 % 2 * 2) date (g₁ .layout) (same-counted b₁) (parent .low) (parent .high) six .attribute'
-      ∙ ap (λ (y : ℕ). y - y / 2 % 2 * 2) (grown-attribute b id (askedLength b id at n) date good parent lack six)
+      ∙ ap (λ (y : ℕ). y - y / 2 % 2 * 2) (longer .attribute)
 
   length' : lengthOf (fileBytes b' id) ≡ lengthOf (tableAt p b₁ id)
   length' =

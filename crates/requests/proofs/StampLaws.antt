@@ -19,7 +19,7 @@ use Rattle.tables.specs.Indexes.{tableAt, nameOf, createdOf, lengthOf}
 use Rattle.tables.specs.Places.{placesOf, Layout}
 use Rattle.tables.specs.Same.{Ground}
 use Rattle.tables.specs.Sector1.{activeOf, deletedOf, freeOf, systemOf, directoryOf}
-use Rattle.tables.specs.Views.{View, viewOf, Parent}
+use Rattle.tables.specs.Views.{viewOf, Parent}
 use Rattle.tables.proofs.FrameLaws.{table-kept, sector1-same, sector1-tails}
 use Rattle.tables.proofs.IndexLaws.{length-table}
 use Rattle.tables.proofs.SameLaws.{same-ground}
@@ -28,7 +28,7 @@ use Rattle.allocation.specs.NewTables.{tablePlace}
 use Rattle.allocation.specs.Steps.{SameCounts}
 use Rattle.allocation.proofs.HeldLawful.{calm-quiet, quiet-trans, Fields, table-fields}
 use Rattle.allocation.proofs.NextGround.{ground-trans}
-use Rattle.allocation.proofs.PointerBytes.{word-kept}
+use Rattle.allocation.proofs.RestatedLaws.{Restated}
 use Rattle.allocation.proofs.StepLaws.{Still, still-table}
 use Rattle.allocation.proofs.TableLaws.{table-put16, table-over, table-other}
 use Rattle.requests.specs.State.{putAttribute, putCounts, removed, recovered, protected, removeTests, recoverTests, protectTests}
@@ -61,7 +61,7 @@ module _ (p : Places) (b : List ℕ) (f : ℕ) (date : List ℕ) (lay : Layout p
   dated = rw six at (kept-over b (tablePlace p f + 34) date (omega (arith, lay .end)))
 
   -- the table with the date
-  pub table-dated : Kept (tableAt p b f) (over (tableAt p b f) 34 date) 34 6
+  table-dated : Kept (tableAt p b f) (over (tableAt p b f) 34 date) 34 6
   table-dated = rw six at (kept-over (tableAt p b f) 34 date (omega (arith, length-table p b f lay lo hi)))
 
   module _ (y : List ℕ) (o n : ℕ) (within : o + n ≤ 128) (k : Kept (over b (tablePlace p f + 34) date) y (tablePlace p f + o) n) where
@@ -80,10 +80,10 @@ module _ (p : Places) (b : List ℕ) (f : ℕ) (date : List ℕ) (lay : Layout p
     lay-y : Layout p (length y)
     lay-y = rw (own .len) lay
 
-    pub stamped-own : tableAt p (over y 1044 date) f ≡ tableAt p y f
+    stamped-own : tableAt p (over y 1044 date) f ≡ tableAt p y f
     stamped-own = table-kept p f latest (inr (omega (arith, lay .index, lay .sector, lay .zone)))
 
-    pub stamped : Stamped p b (over y 1044 date) f
+    stamped : Stamped p b (over y 1044 date) f
     stamped = record {
       other = λ j low ne. table-kept p j latest (inr (omega (arith, lay .index, lay .sector, lay .zone))) ∙ table-other p f j own lo low ne;
       quiet = quiet-trans (calm-quiet (still .calm)) (status-quiet p y (over y 1044 date) lay-y status);
@@ -100,17 +100,6 @@ module _ (p : Places) (b : List ℕ) (f : ℕ) (date : List ℕ) (lay : Layout p
     }
 
 -- ---- an attribute written, behind other counts of files
-
--- of file f's parent only bytes 34 to 45 are others, of sector 1 what R9 alone sees
-pub record Restated (v v' : View) (f : ℕ) : Type 0 where
-  pub ground : Ground v v'
-  pub indexes : v' .indexes ≡ v .indexes
-  pub head : v' .head ≡ v .head
-  pub here : Kept (v .table f) (v' .table f) 34 12
-  pub there : (j : ℕ) → 1 ≤ j → j ≤ v .indexes → j ≢ f → v' .table j ≡ v .table j
-
-pub restated-parent : (v v' : View) (f : ℕ) → Restated v v' f → Parent v f → Parent v' f
-restated-parent v v' f w parent = record { low = parent .low; high = rw (w .indexes) (parent .high); word = word-kept f (w .here) (omega arith) ∙ parent .word }
 
 -- sector 1's counts, but that of free tables, may be others
 pub record Recounted (b c : List ℕ) : Type 0 where

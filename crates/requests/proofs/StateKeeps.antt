@@ -1,43 +1,37 @@
 -- Temporary delete, recover and set protection keep the books good: the rules hold of the books afterwards, at the same places; and all
 -- pointers stay. Assumes nothing.
 use mathlib.Core.Path.{_≡_, refl, sym, ap, ap₂, _∙_}
-use mathlib.Core.Logic.{_≢_, inl, inr}
+use mathlib.Core.Logic.{inr}
 use mathlib.Core.List.{List}
 use Prim.Native.Nat.{ℕ, zero, suc, _+_, _-_, _*_, _/_, _%_, _≤_, _<_}
 use native.Mathlib.Decide.{ℕ-discrete}
 use native.Mathlib.Omega.{arith}
 use lib.ListN.{length}
-use Rattle.field.proofs.Frames.{kept-refl}
-use Rattle.field.proofs.NumberLaws.{u16-kept, u32-kept}
-use Rattle.field.proofs.Sums.{sum-same}
+use Rattle.field.proofs.NumberLaws.{u16-kept}
 use Rattle.tables.specs.declared.index.Pointer.{Pointer}
 use Rattle.tables.specs.declared.places.Places.{Places}
-use Rattle.tables.specs.Kinds.{zoneOf}
 use Rattle.tables.specs.Books.{Good}
 use Rattle.tables.specs.Dates.{Date}
 use Rattle.tables.specs.Places.{placesOf, Layout}
 use Rattle.tables.specs.Sector1.{activeOf, deletedOf, systemOf, directoryOf}
-use Rattle.tables.specs.Indexes.{tableAt, wordOf, parentOf, nameOf, createdOf, lengthOf, attributeOf, minus, slotsOf, baseOf, pointerAt, startOf, countOf, Used, sectorsOf, fileOf}
-use Rattle.tables.specs.Views.{View, viewOf, Parent, Child, walk, next, cov, overOf, Under}
-use Rattle.tables.specs.Rules.R5.{Stands}
-use Rattle.tables.specs.Rules.R8.{fileSectors, fileType, OneType, variableBit, directoryBit, systemBit, File}
+use Rattle.tables.specs.Indexes.{tableAt, nameOf, createdOf, lengthOf, attributeOf, baseOf, pointerAt, Used}
+use Rattle.tables.specs.Views.{View, viewOf, Parent}
+use Rattle.tables.specs.Rules.R8.{fileType, OneType, variableBit, directoryBit, systemBit, File}
 use Rattle.tables.specs.Rules.R9.{deletedBit, R9}
 use Rattle.tables.specs.Lawful.{Lawful}
-use Rattle.tables.proofs.CountLaws.{Ones, only-eq, ones-active, ones-deleted}
-use Rattle.tables.proofs.SameLaws.{ground-R2, ground-R3}
-use Rattle.tables.proofs.IndexLaws.{base-parent}
-use Rattle.allocation.specs.Held.{Shapely, Held, InType, nothing}
+use Rattle.tables.proofs.CountLaws.{Ones, ones-active, ones-deleted}
+use Rattle.allocation.specs.Held.{Held, nothing}
 use Rattle.allocation.specs.Lengthened.{Quiet}
-use Rattle.allocation.proofs.MadeHeld.{lawful-held}
 use Rattle.allocation.proofs.HeldLawful.{held-rules, quiet-good, quiet-R1, in-one, Fields, fields-file}
-use Rattle.allocation.proofs.PointerBytes.{word-kept, parent-kept, slots-kept, file-kept, start-kept, count-kept}
-use Rattle.allocation.proofs.ChangeLaws.{Changed, Stays, stays-same, member-begins, parent-file, ground-run, walk-stays, chain-stays, parent-there, begins-was, stay-R4, changed-R5, changed-R6, pointers-at, sectors-at, under-zone, changed-types, changed-R8, changed-R9}
+use Rattle.allocation.proofs.RestatedLaws.{Restated, restated-parent, restated-start, restated-count, restated-change, restated-used, restated-sectors, restated-held, restated-types}
+use Rattle.allocation.proofs.GrownLawful.{rules-held}
+use Rattle.allocation.proofs.ChangeLaws.{changed-R9}
 use Rattle.requests.specs.Answers.{after}
 use Rattle.requests.specs.State.{putAttribute, putCounts, removed, recovered, protectionOf, protected, Removed, Recovered, Protected}
 use Rattle.requests.proofs.RequestLaws.{good-room}
 use Rattle.requests.proofs.MountKeeps.{done-keeps}
 use Rattle.requests.proofs.StateLaws.{weights-few, active-some, system-some, directory-some, deleted-some, remove-valid, remove-asks, recover-valid, recover-asks, protect-valid, protect-asks}
-use Rattle.requests.proofs.StampLaws.{Restated, restated-parent, Recounted, same-counted, put-stamped, put-quiet, put-restated, put-fields, counts-recounted, counts-read}
+use Rattle.requests.proofs.StampLaws.{Recounted, same-counted, put-stamped, put-quiet, put-restated, put-fields, counts-recounted, counts-read}
 
 -- ---- the change date and the attribute
 
@@ -45,120 +39,11 @@ use Rattle.requests.proofs.StampLaws.{Restated, restated-parent, Recoun
 abbrev pointerIn : View → ℕ → ℕ → Pointer
 pointerIn v i j = pointerAt (v .table i) (baseOf i (v .table i) + 6 * j)
 
-module _ (v v' : View) (f : ℕ) (w : Restated v v' f) (few : v .indexes ≤ 4096) (parent : Parent v f) where
-  abbrev t : List ℕ
-  t = v .table f
-
-  abbrev t' : List ℕ
-  t' = v' .table f
-
-  base : baseOf f t ≡ 64
-  base = base-parent f t (parent .word)
-
-  same-slots : slotsOf f t' ≡ slotsOf f t
-  same-slots = slots-kept f (w .here) (omega arith)
-
-  same-start : (j : ℕ) → startOf f t' j ≡ startOf f t j
-  same-start j = start-kept f (w .here) (omega arith) j (inr (omega (arith, base)))
-
-  same-count : (j : ℕ) → countOf f t' j ≡ countOf f t j
-  same-count j = count-kept f (w .here) (omega arith) j (inr (omega (arith, base)))
-
-  restated-pointer : (i j : ℕ) → 1 ≤ i → i ≤ v .indexes → pointerIn v' i j ≡ pointerIn v i j
-  restated-pointer i j low high = elim (ℕ-discrete i f) [
-    | yes e ↦ rw e (ap₂ (λ (s n : ℕ). record { start = record { 0 = s }; count = n }) (same-start j) (same-count j))
-    | no ne ↦ ap (λ (x : List ℕ). pointerAt x (baseOf i x + 6 * j)) (w .there i low high ne)
-  ]
-
-  same-over : (s : ℕ) → overOf f t' s ≡ overOf f t s
-  unfolding overOf
-  same-over s = rw same-slots (sum-same (slotsOf f t) _ _ (λ j l. ap₂ (λ (a c : ℕ). cov a c s) (same-start j) (same-count j)))
-
-  same-own : sectorsOf f t' ≡ sectorsOf f t
-  unfolding sectorsOf
-  same-own = rw same-slots (sum-same (slotsOf f t) _ _ (λ j l. same-count j))
-
-  change : Changed v v' f f
-  change = record {
-    ground = w .ground;
-    indexes = w .indexes;
-    few = few;
-    file = parent .low;
-    low = parent .low;
-    high = parent .high;
-    kept = λ j lo hi ne. rw (w .there j lo hi ne) (kept-refl (v .table j) 124 4);
-    there = λ j lo hi ne nf. w .there j lo hi ne;
-    was = inl (parent-file v f parent);
-    now = file-kept f (w .here) (omega arith) ∙ parent-file v f parent;
-    word = inl (word-kept f (w .here) (omega arith) ∙ parent .word);
-  }
-
-  now-used : Used f t 0 → Used f t' 0
-  now-used u = rw (same-start 0, same-count 0) u
-
-  now-sectors : fileSectors v' f ≡ fileSectors v f
-  now-sectors = omega (arith, sectors-at v v' f f change, only-eq (fileOf f t) f (sectorsOf f t) (parent-file v f parent), same-own)
-
-  stays-own : Stays v v' f
-  stays-own = record {
-    link = u32-kept 124 (w .here) (inr (omega arith));
-    word = word-kept f (w .here) (omega arith);
-    parent = parent-kept f (w .here) (omega arith);
-    full = λ full j l. (let l' : j < slotsOf f t = rw same-slots at l in rw (same-start j, same-count j) (full j l'));
-  }
-
-  module _ (h : Held v f nothing) where
-    stays : (k : ℕ) → k < suc (h .r5 .long f) → Stays v v' (walk (next v) f k)
-    stays k l =
-        let b = member-begins v few f (h .r5 .long f) parent (h .r5 .chain f parent) k l .1 in
-        elim (ℕ-discrete (walk (next v) f k) f) [ yes e ↦ rw e stays-own | no ne ↦ stays-same v v' _ (w .there _ (b .low) (b .high) ne) ]
-
-    own-stands : (c : ℕ) → Child v' c → parentOf (v' .table c) ≡ f → Stands v' f (h .r5 .long f) c
-    own-stands c b e =
-        let hi : c ≤ v .indexes = rw (w .indexes) at (b .high) in
-        let ne : c ≢ f = λ q. (let z : minus c ≡ c = sym (b .word) ∙ ap (λ (i : ℕ). wordOf (v' .table i)) q ∙ restated-parent v v' f w parent .word ∙ sym q in omega arith) in
-        let q : parentOf (v .table c) ≡ f = sym (parent-there v v' f f change c (b .low) hi ne) ∙ e in
-        let o = rw q at (h .r5 .stands c (begins-was v v' f f change c (b .low) hi ne (minus c) b)) in
-        record {
-          parent = restated-parent v v' f w parent;
-          place = o .place;
-          below = o .below;
-          here = walk-stays v v' (w .indexes) f (h .r5 .long f) (h .r5 .chain f parent) stays (suc (o .place)) (omega (arith, o .below)) ∙ o .here;
-        }
-
-    own-shape : Shapely v' f f t'
-    own-shape =
-        let s = h .r6 f (omega (arith, parent .high)) (parent .low) in
-        record {
-          first = λ j l u. (let l' : suc j < slotsOf f t = rw same-slots at l in rw (same-start j, same-count j) (s .first j l' (rw (same-start (suc j), same-count (suc j)) at u)));
-          used = λ j l u. (let l' : j < slotsOf f t = rw same-slots at l in
-              rw (same-start j, same-count j) (ground-run v v' (w .ground) _ _ (s .used j l' (rw (same-start j, same-count j) at u))));
-          one = λ e ne. absurd (ne refl);
-          header = λ e k l. w .here .out (58 + k) (inr (omega arith)) ∙ s .header (parent .word) k l;
-        }
-
-    restated-held : R9 v' → Held v' f nothing
-    restated-held r9 = record {
-      r2 = ground-R2 v v' (w .ground) (h .r2);
-      r3 = ground-R3 v v' (w .ground) (h .r3);
-      r4 = stay-R4 v v' f f change (w .head) (λ z. omega (arith, parent .low, parent .word)) (h .r4);
-      r5 = changed-R5 v v' f f change (h .r5) (h .r5 .long f) (chain-stays v v' (w .indexes) f (h .r5 .long f) (h .r5 .chain f parent) stays) own-stands
-          (λ b. absurd (omega (arith, b .word, restated-parent v v' f w parent .word, b .high, w .indexes)));
-      r6 = changed-R6 v v' f f change own-shape (h .r6);
-      r7 = λ s l lo. (let l' : s < 1024 * (v .zones - 1) = rw (w .ground .zones) at l in
-          omega (arith, pointers-at v v' f f change s, same-over s, h .r7 s l' lo, w .ground .bit s (omega arith)));
-      r8 = changed-R8 v v' f f change (h .r6) (h .r8);
-      r9 = r9;
-    }
-
-    restated-types : (y : ℕ) → InType v f y → InType v' f y
-    restated-types y all = changed-types v v' f f change (h .r6) y all new
-      where
-        new : (j s : ℕ) → Under v' f j s → v' .zone (zoneOf s) .ztype ≡ y
-        new j s u =
-            let o : Under v f j s
-            = record { low = parent .low; high = parent .high; slot = rw same-slots at (u .slot); from = rw (same-start j) at (u .from); to = rw (same-start j, same-count j) at (u .to) } in
-            rw (under-zone v v' f f change (h .r6) f j s o) (all f j s (parent-file v f parent) o)
+restated-pointer : (v v' : View) (f : ℕ) → Restated v v' f → v .indexes ≤ 4096 → Parent v f → (i j : ℕ) → 1 ≤ i → i ≤ v .indexes → pointerIn v' i j ≡ pointerIn v i j
+restated-pointer v v' f w few parent i j low high = elim (ℕ-discrete i f) [
+  | yes e ↦ rw e (ap₂ (λ (s n : ℕ). record { start = record { 0 = s }; count = n }) (restated-start v v' f w few parent j) (restated-count v v' f w few parent j))
+  | no ne ↦ ap (λ (x : List ℕ). pointerAt x (baseOf i x + 6 * j)) (w .there i low high ne)
+]
 
 -- all pointers stay, whether the request is done or not
 pub after-pointer : (r : ℕ) (new b b' : List ℕ) (f i j : ℕ) → 1 ≤ i → i ≤ placesOf b .indexes → Good b (placesOf b) → Good b' (placesOf b) → b' ≡ after r new b
@@ -187,13 +72,13 @@ module _ (p : Places) (b c : List ℕ) (f a : ℕ) (date : List ℕ) (lay : Layo
   now = restated-parent (viewOf p b) (viewOf p d) f restated parent
 
   was : Held (viewOf p b) f nothing
-  was = lawful-held (viewOf p b) f (old .r2) (old .r3) (old .r4) (old .r5) (old .r6) (old .r7) (old .r8) (old .r9)
+  was = rules-held p b f old
 
   was-file : File (viewOf p b) f (tableAt p b f)
   was-file = old .r8 f (omega (arith, parent .high)) (parent .low) (parent .word)
 
   used : Used f (tableAt p d f) 0
-  used = now-used (viewOf p b) (viewOf p d) f restated (lay .few) parent (old .r6 f (omega (arith, parent .high)) (parent .low) .one (parent .word))
+  used = restated-used (viewOf p b) (viewOf p d) f restated (lay .few) parent (old .r6 f (omega (arith, parent .high)) (parent .low) .one (parent .word))
 
   fields : Fields (tableAt p d f) (nameOf (tableAt p b f)) (createdOf (tableAt p b f)) date (lengthOf (tableAt p b f)) a
   fields = put-fields p b c f a date lay k (parent .low) (parent .high) (valid .long)
@@ -213,7 +98,7 @@ module _ (p : Places) (b c : List ℕ) (f a : ℕ) (date : List ℕ) (lay : Layo
     attributed-lawful : Lawful p d
     attributed-lawful = held-rules p d f (quiet-R1 p b d quiet (old .r1)) held (λ q. used) (λ w.
         fields-file (viewOf p d) f (tableAt p d f) (nameOf (tableAt p b f)) (createdOf (tableAt p b f)) date (lengthOf (tableAt p b f)) a fields
-        (was-file .name) (was-file .created) valid (was-file .least) (rw (now-sectors (viewOf p b) (viewOf p d) f restated (lay .few) parent) (was-file .most))
+        (was-file .name) (was-file .created) valid (was-file .least) (rw (restated-sectors (viewOf p b) (viewOf p d) f restated (lay .few) parent) (was-file .most))
         (λ e. was-file .fixed (sym variable ∙ e)) one few (rw (directory, system) (was-file .both)))
 
   -- ---- R9: the counts change by what file f adds
@@ -238,7 +123,7 @@ module _ (p : Places) (b c : List ℕ) (f a : ℕ) (date : List ℕ) (lay : Layo
     recounted active deleted system directory =
         let s₁ = put-stamped p b c f a date lay k (parent .low) (parent .high) (valid .long) in
         let q = s₁ .counts in
-        changed-R9 (viewOf p b) (viewOf p d) f f (change (viewOf p b) (viewOf p d) f restated (lay .few) parent) m n 0 s r m' n' 0 s' r' before after'
+        changed-R9 (viewOf p b) (viewOf p d) f f (restated-change (viewOf p b) (viewOf p d) f restated (lay .few) parent) m n 0 s r m' n' 0 s' r' before after'
         (omega (arith, q .active)) (omega (arith, q .deleted)) (omega (arith, s₁ .free, k .free)) (omega (arith, q .system)) (omega (arith, q .directory))
         (q .flag ∙ u16-kept 1054 (k .kept) (inr (omega arith))) (old .r9)
 

@@ -11,11 +11,12 @@ use Rattle.tables.specs.Indexes.{tableAt}
 use Rattle.tables.specs.Lawful.{Lawful}
 use Rattle.tables.specs.Places.{placesOf, Layout}
 use Rattle.tables.specs.Views.{viewOf, Parent}
+use Rattle.allocation.proofs.RestatedLaws.{Restated, restated-parent}
 use Rattle.files.specs.Unchanged.{Untouched, SamePlaces}
 use Rattle.files.proofs.UntouchedLaws.{restated-untouched, restated-places}
 use Rattle.requests.specs.Answers.{after}
 use Rattle.requests.specs.State.{removed, recovered, protected, Removed, Recovered, Protected}
-use Rattle.requests.proofs.StampLaws.{Restated, restated-parent, removed-restates, recovered-restates, protected-restates}
+use Rattle.requests.proofs.StampLaws.{removed-restates, recovered-restates, protected-restates}
 use Rattle.requests.proofs.StepLeaves.{Leaves, leaves-at, leaves-done}
 
 module _ (p : Places) (b : List ℕ) (lay : Layout p (length b)) (lawful : Lawful p b) (b' : List ℕ) (f : ℕ) (parent : Parent (viewOf p b) f) (h : Restated (viewOf p b) (viewOf p b') f) where

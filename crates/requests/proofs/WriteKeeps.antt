@@ -29,6 +29,7 @@ use Rattle.tables.proofs.GateLaws.{gate-head}
 use Rattle.allocation.specs.Files.{blocksFor}
 use Rattle.allocation.proofs.FileLaws.{count-only}
 use Rattle.allocation.proofs.GrownLawful.{lawful-typed, blocks-enough}
+use Rattle.allocation.proofs.RestatedLaws.{Restated, restated-parent}
 use Rattle.files.specs.Moves.{filled, Movable}
 use Rattle.files.proofs.MoveLaws.{length-filled}
 use Rattle.files.proofs.PlaceLaws.{sectors-most}
@@ -42,7 +43,7 @@ use Rattle.requests.specs.Read.{wholeSectors}
 use Rattle.requests.specs.Write.{WriteAllowed, Within, askedLength, writeTests, settled, settle, writtenBooks, writtenBody, Wrote}
 use Rattle.requests.proofs.RequestLaws.{good-room}
 use Rattle.requests.proofs.CreateKeeps.{grown-keeps}
-use Rattle.requests.proofs.StampLaws.{Restated, restated-parent, same-counted, put-stamped, put-restated, put-fields}
+use Rattle.requests.proofs.StampLaws.{same-counted, put-stamped, put-restated, put-fields}
 use Rattle.requests.proofs.StateKeeps.{steady-good}
 use Rattle.requests.proofs.ReadLaws.{file-here}
 use Rattle.requests.proofs.WriteLaws.{asked-variable, Grown, grown-is, write-allows, write-good, write-parent, write-sized, write-within, write-lack}

@@ -1,43 +1,31 @@
 -- Write: each way out, what its parts ask, the books once the file has grown, and that the promise allows one result. Assumes nothing.
 use mathlib.Core.Path.{_≡_, refl, sym, ap, ap₂, _∙_}
-use mathlib.Core.Logic.{_≢_, inl}
+use mathlib.Core.Logic.{_≢_}
 use mathlib.Core.Bool.{Bool, not, true, false}
 use mathlib.Core.List.{List}
 use Prim.Native.Nat.{ℕ, zero, suc, _+_, _-_, _*_, _/_, _%_, _≤_, _<_}
 use native.Mathlib.Decide.{decLt}
 use native.Mathlib.Omega.{arith}
 use lib.Dec.{leb}
-use lib.ListN.{getD, length}
+use lib.ListN.{length}
 use borrow.Author.Tests.{eq-eqb, ne-eqb, lt-ltb, le-ltb}
 use Rattle.field.specs.Says.{Says}
-use Rattle.field.specs.Numbers.{u32At, putU32}
-use Rattle.field.specs.Kept.{Kept}
-use Rattle.field.specs.Parts.{over}
-use Rattle.field.proofs.NumberLaws.{u32-kept, kept-putU32, u32-put-same}
 use Rattle.field.proofs.Tests.{passed, refused, says-map}
 use Rattle.tables.specs.declared.places.Places.{Places}
 use Rattle.tables.specs.Books.{Good}
 use Rattle.tables.specs.Dates.{Date}
 use Rattle.tables.specs.Gates.{Gate}
-use Rattle.tables.specs.Indexes.{tableAt, wordOf, lengthOf, attributeOf}
+use Rattle.tables.specs.Indexes.{tableAt, lengthOf, attributeOf}
 use Rattle.tables.specs.Places.{placesOf, Layout}
 use Rattle.tables.specs.Rules.R8.{variableBit}
 use Rattle.tables.specs.Sector1.{flagOf}
 use Rattle.tables.specs.Views.{viewOf, Parent}
 use Rattle.tables.proofs.GateLaws.{gate-one, gate-fails, gate-passes, gate-stop, gate-skip, gate-rest, gate-head, gate-front}
-use Rattle.tables.proofs.IndexLaws.{length-table}
-use Rattle.allocation.specs.Choice.{inOrder, inTurn}
-use Rattle.allocation.specs.Files.{putLength, grown}
-use Rattle.allocation.specs.Growth.{Growth, addBlock}
-use Rattle.allocation.specs.Last.{cursorOf}
-use Rattle.allocation.specs.Lengthened.{Lengthened}
-use Rattle.allocation.specs.NewTables.{tablePlace}
-use Rattle.allocation.specs.Ready.{Ready}
-use Rattle.allocation.proofs.AddHeld.{adds-held}
+use Rattle.allocation.specs.Choice.{inOrder}
+use Rattle.allocation.specs.Files.{grown}
 use Rattle.allocation.proofs.FileLaws.{ready-grow}
-use Rattle.allocation.proofs.GrownLawful.{cursor-ends}
-use Rattle.allocation.proofs.MadeHeld.{lawful-held}
-use Rattle.allocation.proofs.TableLaws.{table-put32, table-over}
+use Rattle.allocation.proofs.HeldLawful.{quiet-places}
+use Rattle.allocation.proofs.GrownLawful.{length-resized, grown-lengthened, grown-calm, grown-parent, grown-long, grown-attribute}
 use Rattle.files.specs.Moves.{filled}
 use Rattle.requests.specs.declared.amount.Amount.{Amount}
 use Rattle.requests.specs.declared.answer.Answer.{Answer}
@@ -57,7 +45,6 @@ use Rattle.requests.proofs.NamedLaws.{attribute-read, body-usable}
 use Rattle.requests.proofs.FixedLaws.{le-says}
 use Rattle.requests.proofs.GrowLaws.{lack-provided, not-below}
 use Rattle.requests.proofs.ReadLaws.{body-parent}
-use Rattle.requests.proofs.StampLaws.{Stamped, table-dated, stamped-own, stamped}
 use Rattle.requests.proofs.FlagLaws.{flag-turn}
 
 -- ---- arguments
@@ -191,38 +178,7 @@ module _ (b : List ℕ) (p : Places) (is : p ≡ placesOf b) where
 
 -- ---- the books: the length
 
--- the length and the dates written: of the file's table its first word stays
-module _ (p : Places) (b : List ℕ) (f long : ℕ) (date : List ℕ) (lay : Layout p (length b)) (lo : 1 ≤ f) (hi : f ≤ p .indexes) (six : length date ≡ 6) where
-  length-stamped : Stamped p b (putLength p b f long date) f
-  unfolding putLength
-  length-stamped = stamped p b f date lay lo hi six _ 40 4 (omega arith) (kept-putU32 (over b (tablePlace p f + 34) date) (tablePlace p f + 40) long)
-
-  pub put-table : tableAt p (putLength p b f long date) f ≡ putU32 (over (tableAt p b f) 34 date) 40 long
-  unfolding putLength
-  put-table =
-      let x = over b (tablePlace p f + 34) date in
-      stamped-own p b f date lay lo hi six _ 40 4 (omega arith) (kept-putU32 x (tablePlace p f + 40) long) ∙ table-put32 p x f 40 long (omega arith)
-      ∙ ap (λ (t : List ℕ). putU32 t 40 long) (table-over p b f 34 date lay lo hi (omega arith))
-
-  dated : Kept (tableAt p b f) (over (tableAt p b f) 34 date) 34 6
-  dated = table-dated p b f date lay lo hi six
-
-  put-word : wordOf (tableAt p (putLength p b f long date) f) ≡ wordOf (tableAt p b f)
-  put-word = ap wordOf put-table ∙ u32-kept 0 (kept-putU32 (over (tableAt p b f) 34 date) 40 long) (inl (omega arith)) ∙ u32-kept 0 dated (inl (omega arith))
-
-  put-long : lengthOf (tableAt p (putLength p b f long date) f) ≡ long
-  put-long = ap lengthOf put-table ∙ u32-put-same (over (tableAt p b f) 34 date) 40 long (omega (arith, dated .len, length-table p b f lay lo hi))
-
--- the places are in the first 1,028 bytes
-module _ (b b' : List ℕ) (low : (j : ℕ) → j < 1028 → getD b' j 0 ≡ getD b j 0) where
-  low32 : (o : ℕ) → o + 4 ≤ 1028 → u32At b' o ≡ u32At b o
-  unfolding u32At
-  low32 o l = rw (low o (omega arith), low (o + 1) (omega arith), low (o + 2) (omega arith), low (o + 3) (omega arith))
-
-  low-places : placesOf b' ≡ placesOf b
-  low-places = rw (low32 130 (omega arith), low32 1024 (omega arith), low32 138 (omega arith), low32 142 (omega arith), low32 146 (omega arith))
-
--- in books b' file id of b is of so many bytes at least, and no shorter than it was
+-- in books b' file id of b is of so many bytes at least, no shorter than it was, and has its attribute
 pub record Grown (b : List ℕ) (id long : ℕ) (b' : List ℕ) : Type 0 where
   pub places : placesOf b' ≡ placesOf b
   pub len : length b' ≡ length b
@@ -230,54 +186,34 @@ pub record Grown (b : List ℕ) (id long : ℕ) (b' : List ℕ) : Type 0 where
   pub parent : Parent (viewOf (placesOf b) b') id
   pub long' : long ≤ lengthOf (tableAt (placesOf b) b' id)
   pub more : lengthOf (fileBytes b id) ≤ lengthOf (tableAt (placesOf b) b' id)
+  pub attribute : attributeOf (tableAt (placesOf b) b' id) ≡ attributeOf (fileBytes b id)
 
 module _ (b : List ℕ) (id long : ℕ) (date : List ℕ) (g : Good b (placesOf b)) (parent : Parent (viewOf (placesOf b) b) id) (room : Gate (lackTests b id long) 0) (six : length date ≡ 6) where
-  abbrev p : Places
-  p = placesOf b
-
-  abbrev counts : List ℕ
-  counts = growCounts b id long
-
-  abbrev start : Growth
-  start = record { books = b; cursor = cursorOf p b id }
-
-  abbrev a : List ℕ
-  a = inTurn (addBlock p id) (inOrder counts) start .books
-
-  module _ (l : lengthOf (fileBytes b id) < long) where
-    ready : Ready p id start (inOrder counts)
-    ready = ready-grow p b id counts (lack-provided b id long g room l) parent
-
-    pub lengthened : Lengthened p id start (inTurn (addBlock p id) (inOrder counts) start) (inOrder counts)
-    lengthened =
-        let w = g .lawful in
-        adds-held p id (inOrder counts) start ready
-        (lawful-held (viewOf p b) id (w .r2) (w .r3) (w .r4) (w .r5) (w .r6) (w .r7) (w .r8) (w .r9)) (cursor-ends p b id w parent)
-
-    lay : Layout p (length a)
-    lay = rw (lengthened .quiet .len) (g .layout)
-
-    longer : Grown b id long (grown p b id counts long date)
-    unfolding grown
-    longer =
-        let lo = parent .low in
-        let hi = parent .high in
-        let is = put-long p a id long date lay lo hi six in
-        let s = length-stamped p a id long date lay lo hi six in
-        record {
-          places = low-places b (putLength p a id long date) (λ j k. s .quiet .low j k ∙ lengthened .quiet .low j k);
-          len = s .quiet .len ∙ lengthened .quiet .len;
-          flag = s .counts .flag ∙ flag-turn p id start (inOrder counts) ready;
-          parent = record { low = lo; high = hi; word = put-word p a id long date lay lo hi six ∙ lengthened .ends .parent .word };
-          long' = omega (arith, is);
-          more = omega (arith, is);
-        }
+  longer : lengthOf (fileBytes b id) < long → Grown b id long (grown (placesOf b) b id (growCounts b id long) long date)
+  unfolding grown
+  longer l =
+      let p = placesOf b in
+      let counts = growCounts b id long in
+      let has = lack-provided b id long g room l in
+      let quiet = grown-calm p b id counts has parent long date six in
+      let is = grown-long p b id counts has parent long date six in
+      let h = grown-lengthened p b id counts has parent in
+      let resized = length-resized p _ id long date (rw (← h .quiet .len) at (g .layout)) (parent .low) (parent .high) six in
+      record {
+        places = quiet-places p b _ quiet;
+        len = quiet .len;
+        flag = resized .counts .flag ∙ flag-turn p id _ (inOrder counts) (ready-grow p b id counts has parent);
+        parent = grown-parent p b id counts has parent long date six;
+        long' = omega (arith, is);
+        more = omega (arith, is);
+        attribute = grown-attribute p b id counts has parent long date six;
+      }
 
   pub grown-is : Grown b id long (grownTo b id long date)
   unfolding grownTo
   grown-is = elim (decLt (lengthOf (fileBytes b id)) long) [
     | yes l ↦ rw (lt-ltb (lengthOf (fileBytes b id)) long l) (longer l)
-    | no nl ↦ rw (le-ltb (lengthOf (fileBytes b id)) long (omega arith)) (record { places = refl; len = refl; flag = refl; parent = parent; long' = omega arith; more = omega arith })
+    | no nl ↦ rw (le-ltb (lengthOf (fileBytes b id)) long (omega arith)) (record { places = refl; len = refl; flag = refl; parent = parent; long' = omega arith; more = omega arith; attribute = refl })
   ]
 
 -- ---- the books, written

@@ -13,7 +13,7 @@ use tables::room::room;
 use tables::sector1::free_indexes;
 ghost use mathlib.Core.Path.{_≡_};
 ghost use mathlib.Core.Bool.{true};
-ghost use Prim.Native.Nat.{_≤_, _<_};
+ghost use Prim.Native.Nat.{_≤_};
 ghost use Rattle.field.specs.Says.{Says};
 ghost use Rattle.tables.specs.Gates.{Gate};
 ghost use Rattle.tables.specs.Books.{Good};

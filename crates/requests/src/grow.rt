@@ -19,7 +19,6 @@ use tables::places::Places;
 use tables::places::read_places;
 use tables::rules::files::file_type;
 ghost use mathlib.Core.Path.{_≡_};
-ghost use Prim.Native.Nat.{_≤_, _<_};
 ghost use lib.ListN.{length};
 ghost use Rattle.field.specs.Says.{Says};
 ghost use Rattle.tables.specs.Gates.{Gate};

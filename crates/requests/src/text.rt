@@ -1,7 +1,7 @@
 // Text of the report: numbers in decimal, lines of a name and a number, written into a lent slice.
 use field::parts::copy;
 ghost use mathlib.Core.Path.{_≡_};
-ghost use Prim.Native.Nat.{_+_, _%_, _≤_, _<_};
+ghost use Prim.Native.Nat.{_+_, _%_, _≤_};
 ghost use lib.ListN.{length};
 ghost use Rattle.requests.specs.Text.{decimal, lineOf, Holding, Put};
 

@@ -1,6 +1,6 @@
 -- The test `matches` is `Matches`; the match with three answers tells what the test does; and a law for each way out of the functions. Assumes nothing.
-use mathlib.Core.Path.{_≡_, refl, sym, _∙_}
-use mathlib.Core.Bool.{Bool, true, false, cond, _&&_, _||_, and-false, or-true, false≢true}
+use mathlib.Core.Path.{_≡_, refl, sym, ap, _∙_}
+use mathlib.Core.Bool.{Bool, true, false, not, Bool·not-not, cond, _&&_, _||_, and-false, or-true, false≢true}
 use mathlib.Core.List.{List, [], _∷_}
 use Prim.Native.Nat.{ℕ, zero, suc, _<_, _-_}
 use native.Mathlib.Omega.{arith}
@@ -9,7 +9,7 @@ use lib.Seq.{take-length}
 use lib.Dec.{eqb}
 use borrow.Author.Tests.{eq-eqb, ne-eqb, eqb-true}
 use Rattle.names.specs.Pattern.{isOne, isAny, Matches, end, same, one, none, more, someTail, byByte, matches}
-use Rattle.names.specs.Three.{Tail, fits, anyThree, byteThree, threeWay}
+use Rattle.names.specs.Three.{Tail, fits, anyThree, byteThree, threeWay, Differs}
 
 -- ---- the test is the match
 
@@ -180,6 +180,14 @@ any-more [] s h e u m i z v k = absurd (h refl)
 any-more (q ∷ p) [] h e u m i z v k = absurd (z refl)
 any-more (q ∷ p) (c ∷ s) h e u m i z v k = (rw v at k) ∙ rw (e, ← (rw u at m), i)
 
+pub differs-some : (p s : List ℕ) {d : Bool} → (d ≡ true → Differs p s) → d ≡ true → 0 < length s
+differs-some p s m i = m i .some
+
+-- the name's first byte tells that what is after it answers 1
+pub any-passes : (p s : List ℕ) {d : Bool} {t : ℕ} {p' s' : List ℕ} → (length p ≡ 0 → ⊥) → getD p 0 0 ≡ 63 → p' ≡ drop 1 p → (d ≡ true → Differs p' s) → d ≡ true → s' ≡ drop 1 s → t ≡ threeWay p s' → t ≡ threeWay p s
+any-passes p s h e u m i v k =
+    let w = m i in any-more p s {r = 1} h e u (sym (w .answer)) refl (λ z. omega (arith, w .some, z)) v k
+
 -- no `?`, and the name is at its end
 pub name-ends : (p s : List ℕ) → (length p ≡ 0 → ⊥) → (getD p 0 0 ≡ 63 → ⊥) → length s ≡ 0 → 2 ≡ threeWay p s
 unfolding threeWay
@@ -200,3 +208,11 @@ unfolding threeWay
 byte-differs [] s h n z e t = absurd (h refl)
 byte-differs (q ∷ p) [] h n z e t = absurd (z refl)
 byte-differs (q ∷ p) (c ∷ s) h n z e t = rw (ne-eqb q 63 n, sym e ∙ t)
+
+-- ---- of differs
+
+pub not-differs : {P : Type 0} → false ≡ true → P
+not-differs e = absurd (false≢true e)
+
+pub first-tells : (p s : List ℕ) {f : Bool} → (length p ≡ 0 → ⊥) → (length s ≡ 0 → ⊥) → (getD p 0 0 ≡ 63 → ⊥) → f ≡ fits (getD p 0 0) (getD s 0 0) → not f ≡ true → Differs p s
+first-tells p s {f} h z n e t = record { some = omega (arith, z); answer = sym (byte-differs p s h n z e (sym (Bool·not-not f) ∙ ap not t)) }

@@ -33,3 +33,8 @@ byteThree answer q (c ∷ s) = cond (fits q c) (answer s) 1
 unfoldable pub threeWay : List ℕ → List ℕ → ℕ
 threeWay [] s = cond (empty s) 0 1
 threeWay (q ∷ p) s = cond (isAny q) (anyThree (threeWay p) s) (byteThree (threeWay p) q s)
+
+-- there is a name left, and it does not match; nothing is said of its tails
+pub record Differs (p s : List ℕ) : Type 0 where
+  pub some : 0 < length s
+  pub answer : threeWay p s ≡ 1

@@ -1,10 +1,11 @@
 // The wildcard match: it recurses on what is left of pattern and name, and the sum of their lengths falls.
 // It answers three ways, so that a `?` tries no further once no later start can match either: the cost is polynomial.
 ghost use mathlib.Core.Path.{_≡_};
+ghost use mathlib.Core.Bool.{true};
 ghost use Prim.Native.Nat.{_<_};
 ghost use lib.ListN.{length};
 ghost use Rattle.names.specs.Pattern.{matches};
-ghost use Rattle.names.specs.Three.{fits, threeWay, Tail};
+ghost use Rattle.names.specs.Three.{fits, threeWay, Tail, Differs};
 
 // Without its first byte.
 fn rest(s: &[u8]) -> &[u8]
@@ -24,6 +25,22 @@ fn stands_for(q: u8, c: u8) -> bool
     q == c
 }
 
+// Does the name's first byte tell that it does not match? Then no call is spent on it.
+fn differs(pattern: &[u8], name: &[u8]) -> bool
+    ensures { λ r. ⌜ (r ≡ true → Differs (now (pattern .entry)) (now (name .entry))) ⌝ }
+{
+    if pattern.len() == 0 {
+        return false;
+    }
+    if name.len() == 0 {
+        return false;
+    }
+    if pattern[0] == b'?' {
+        return false;
+    }
+    !stands_for(pattern[0], name[0])
+}
+
 // 0: the name matches. 1: it does not. 2: it does not, and no tail of it does.
 fn three_way(pattern: &[u8], name: &[u8]) -> u32
     ensures { λ r. ⌜ r ≡ threeWay (now (pattern .entry)) (now (name .entry)) ⌝ }
@@ -35,6 +52,9 @@ fn three_way(pattern: &[u8], name: &[u8]) -> u32
         return 1;
     }
     if pattern[0] == b'?' {
+        if differs(rest(pattern), name) {
+            return three_way(pattern, rest(name));
+        }
         let r = three_way(rest(pattern), name);
         if r != 1 {
             return r;

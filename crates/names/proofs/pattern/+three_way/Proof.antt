@@ -3,8 +3,9 @@ use native.Mathlib.Omega.{arith}
 use lib.ListN.{length}
 use borrow.Fn.Kinds.{In}
 use borrow.Fn.PlainCycle.{Measures, is, falls, and}
-use Rattle.names.proofs.PatternLaws.{both-end, pattern-ends, any-stands, any-ends, any-more, name-ends, byte-fits, byte-differs}
+use Rattle.names.proofs.PatternLaws.{both-end, pattern-ends, differs-some, any-passes, any-stands, any-ends, any-more, name-ends, byte-fits, byte-differs}
 use Rattle.names.proofs.pattern.rest.Reads as rest-reads
+use Rattle.names.proofs.pattern.differs.Reads as differs-reads
 use Rattle.names.proofs.pattern.stands_for.Reads as stands-for-reads
 use Rattle.names.proofs.pattern.three_way.Reads as three-way
 use Rattle.names.proofs.pattern.three_way.Kinds as three-way-kinds
@@ -26,6 +27,8 @@ pub +three-way-spec : {M : Type 1} → statement M
 +three-way-spec = close μ-three-way λ t. three-way-lts.spec (
   rest-reads.Asked,
   rest-reads.Learnt,
+  differs-reads.Asked,
+  differs-reads.Learnt,
   three-way-below t,
   three-way.Post,
   stands-for-reads.Asked,
@@ -36,6 +39,11 @@ pub +three-way-spec : {M : Type 1} → statement M
     (λ c. search both-end)
     (λ c. search pattern-ends)
     (λ c. omega arith)
+    (λ c κs. omega arith)
+    (λ c κs. tt)
+    (λ c κs. differs-some _ _ (c .before .differs .ensures) (c .if4 .taken))
+    (λ c κs. (omega arith, tt))
+    (λ c. search any-passes)
     (λ c κs. omega arith)
     (λ c κs. (omega arith, tt))
     (λ c. search any-stands)

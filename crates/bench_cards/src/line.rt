@@ -13,7 +13,7 @@ pub fn say_number(name: &[u8], n: u32) {
     io::print_decimal(1, n as u64);
 }
 
-fn say_pair(a: u32, c: u32) {
+pub fn say_pair(a: u32, c: u32) {
     say_number(b"(", a);
     say_number(b",", c);
     say(b")");

@@ -1,5 +1,6 @@
 // The bench cards on books in memory, a line for each step.
 mod card;
+mod curve;
 mod line;
 
 use crate::card::create;
@@ -19,6 +20,13 @@ use crate::card::remove;
 use crate::card::restore;
 use crate::card::show_nothing;
 use crate::card::space;
+use crate::curve::give_back;
+use crate::curve::make;
+use crate::curve::mark;
+use crate::curve::read_at;
+use crate::curve::show_at;
+use crate::curve::take_back;
+use crate::curve::write_at;
 
 // Counts per zone type, on fresh cards with open zones enough; P3 follows P2 on its card.
 fn counts_cards() {
@@ -214,6 +222,93 @@ fn day() {
     space(&whole);
 }
 
+// A curve of five sectors: 1s, but for the first two bytes of the first and of the last sector.
+fn trip_curve() -> [u8; 5120] {
+    let mut c = [1u8; 5120];
+    c[0] = 11;
+    c[1] = 12;
+    c[4096] = 51;
+    c[4097] = 52;
+    c
+}
+
+// A day at the bench with the body of a card of three zones, whose one zone has the curve in its first five sectors. Each part of the day ends
+// with the next: the curve is written and read back,
+fn morning(books: &mut [u8], body: &mut [u8]) {
+    write_at(b"write", books, body, 0, 5120, false, &trip_curve());
+    read_at(b"read", books, body, 0, 5120, false);
+    read_at(b"read exchanged", books, body, 0, 5120, true);
+    noon(books, body);
+}
+
+// exchanged,
+fn noon(books: &mut [u8], body: &mut [u8]) {
+    write_at(
+        b"write exchanged",
+        books,
+        body,
+        0,
+        5120,
+        true,
+        &trip_curve(),
+    );
+    read_at(b"read what was exchanged", books, body, 0, 5120, false);
+    afternoon(books, body);
+}
+
+// written again and looked at,
+fn afternoon(books: &mut [u8], body: &mut [u8]) {
+    write_at(b"write", books, body, 0, 5120, false, &trip_curve());
+    look(books, body);
+    evening(books, body);
+}
+
+// deleted and given back, and its sectors are used again.
+fn evening(books: &mut [u8], body: &mut [u8]) {
+    leave(books, body);
+    reuse(books, body);
+}
+
+// The curve read in parts, and shown.
+fn look(books: &[u8], body: &[u8]) {
+    read_at(b"read at 4096 of 2048", books, body, 4096, 2048, false);
+    read_at(b"read at 5120", books, body, 5120, 1024, false);
+    read_at(b"read of 1023", books, body, 0, 1023, false);
+    show_at(books, body, 4);
+    show_at(books, body, 5);
+    read_at(b"read without a body", books, b"", 0, 1024, false);
+}
+
+// The curve is deleted, recovered with its bytes, and given back.
+fn leave(books: &mut [u8], body: &[u8]) {
+    mark(books);
+    read_at(b"read deleted", books, body, 0, 5120, false);
+    take_back(books);
+    read_at(b"read recovered", books, body, 0, 5120, false);
+    mark(books);
+    give_back(books);
+    read_at(b"read given back", books, body, 0, 5120, false);
+}
+
+// The next file finds what the body holds, and writes over it.
+fn reuse(books: &mut [u8], body: &mut [u8]) {
+    make(b"reuse", books, b"CURVE 25A");
+    read_at(b"read reused", books, body, 0, 5120, false);
+    write_at(b"write reused", books, body, 0, 5120, false, &[2u8; 5120]);
+    read_at(b"read reused", books, body, 0, 5120, false);
+}
+
+fn day_with(body: &mut [u8]) {
+    let mut books = mounted(formatted(3, 8));
+    make(b"curve", &mut books, b"CURVE 60A");
+    morning(&mut books, body);
+}
+
+fn day_moving() {
+    let mut body = [0u8; 1048576];
+    day_with(&mut body);
+}
+
 fn main() {
     counts_cards();
     four_zones();
@@ -225,4 +320,5 @@ fn main() {
     eleven_pointers();
     growing();
     day();
+    day_moving();
 }

@@ -1,6 +1,6 @@
 /* A day at the bench: a curve is stored, read back, exchanged, deleted, recovered and given back, a second
-   curve is written beside it, and each step's answer is printed. The README says how to build it and how to
-   compare what it prints with bench_day.out. */
+   curve is written beside it, and each step's answer is printed. `make test` builds it, runs it and compares what it
+   prints with bench_day.out. */
 #include "../include/isc.h"
 #include <stdio.h>
 #include <string.h>

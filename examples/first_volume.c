@@ -1,5 +1,5 @@
 /* Formats a volume in memory, mounts it, stores a file on it, reads it back and checks it, and prints the
-   volume's report. The README says how to build it. */
+   volume's report. `make test` builds it, runs it and compares what it prints with first_volume.out. */
 #include "../include/isc.h"
 #include <stdio.h>
 #include <string.h>

@@ -1,0 +1,116 @@
+/* A volume on an image: whether it is whole and lawful, mounting it in memory, saving it. */
+#include "card_volume.h"
+#include "card_books.h"
+#include "card_progress.h"
+#include "card_save.h"
+#include "card_say.h"
+
+#include <string.h>
+
+int volume_has_mark(const uint8_t *copy, size_t length) {
+    static const uint8_t mark[LABEL_MARK_BYTES] = {0x49, 0x53, 0x26, 0x43};
+    return length >= LABEL_MARK + sizeof mark && memcmp(copy + LABEL_MARK, mark, sizeof mark) == 0;
+}
+
+size_t volume_books(const uint8_t *copy, size_t length) {
+    size_t books_len = ISC_SECTOR * books_sectors(copy, length);
+    return books_len < length ? books_len : length;
+}
+
+/* The number in the line `refused=` of a report, or 0. */
+static uint32_t report_number(const uint8_t *copy, size_t books_len) {
+    static const char refused[] = "refused=";
+    uint8_t text[ISC_REPORT_TEXT];
+    uint32_t length;
+    uint32_t number = isc_report(copy, books_len, text, sizeof text, &length);
+    if (number == ISC_DONE && length > sizeof refused && memcmp(text, refused, sizeof refused - 1) == 0)
+        number = (uint32_t)(text[sizeof refused - 1] - '0');
+    return number;
+}
+
+uint32_t volume_examine(const struct image *image, const uint8_t *copy, size_t length) {
+    uint32_t number = report_number(copy, volume_books(copy, length));
+    if (number == ISC_DONE && (size_t)ISC_ZONE * books_zones(copy) != image->length)
+        number = ISC_BODY_LENGTH;
+    return number;
+}
+
+static int refuse_books(const struct image *image, uint32_t number) {
+    say_refusal(number);
+    if (number == ISC_BODY_LENGTH)
+        say_note("a volume of %u zones is %lu bytes long, and the image is not", (unsigned)books_zones(image->before),
+                 (unsigned long)ISC_ZONE * books_zones(image->before));
+    else if (image_has_zones(image) && volume_has_mark(image->before, image->mapped))
+        say_note("`card repair %s` says whether the backup has better tables", image->path);
+    else if (image_has_zones(image) && volume_has_mark(image->before + image_backup(image), ISC_ZONE))
+        say_note("zone 1 is not whole: `card repair %s` makes it from the backup", image->path);
+    return CARD_REFUSED;
+}
+
+/* Sees that the volume as it stands on the file is whole, and mounts it in memory. */
+static int mount(struct volume *volume) {
+    const struct image *image = &volume->image;
+    uint32_t number = volume_examine(image, image->before, image->mapped);
+    if (number != ISC_DONE)
+        return refuse_books(image, number);
+    volume->books = image->now;
+    volume->books_len = volume_books(image->now, image->mapped);
+    volume->body = image->now + ISC_ZONE;
+    volume->body_len = image->length - 2 * (size_t)ISC_ZONE;
+    number = isc_mount(volume->books, volume->books_len);
+    if (number != ISC_DONE) {
+        say_refusal(number);
+        say_note("it was left so: `card repair %s` dismounts it", image->path);
+        return CARD_REFUSED;
+    }
+    if (memcmp(image->before, image->before + image_backup(image), ISC_ZONE) != 0)
+        return say_failure("the backup is not equal to zone 1: `card repair %s` makes it so", image->path);
+    return CARD_DONE;
+}
+
+int volume_open(struct volume *volume, const char *path, enum access access) {
+    int status = image_open(&volume->image, path, access);
+    if (status != CARD_DONE)
+        return status;
+    status = mount(volume);
+    if (status != CARD_DONE)
+        image_close(&volume->image);
+    return status;
+}
+
+/* Writes the sectors of a file to the card; the rest of the body cannot have changed, and need not be read. */
+static int save_file(const struct volume *volume, uint32_t file) {
+    struct progress progress;
+    struct run_walk walk;
+    uint32_t start, count, k;
+    size_t written = 0, done = 0;
+    int status = CARD_DONE;
+    progress_start(&progress, "to the card", books_u32(books_index(volume->books, file) + ISC_ENTRY_LENGTH));
+    runs_start(&walk, volume->books, file);
+    while (status == CARD_DONE && runs_next(&walk, &start, &count)) {
+        for (k = 0; k < count && status == CARD_DONE; k++, done += ISC_SECTOR) {
+            status = save_part(&volume->image, (size_t)ISC_SECTOR * (start + k), ISC_SECTOR, &written);
+            progress_at(&progress, done);
+        }
+    }
+    if (status == CARD_DONE && written > 0)
+        status = save_force(&volume->image);
+    progress_end(&progress);
+    return status;
+}
+
+int volume_save(struct volume *volume, uint32_t file) {
+    uint8_t *now = volume->image.now;
+    uint32_t number = isc_dismount(volume->books, volume->books_len);
+    int status = CARD_DONE;
+    if (number != ISC_DONE)
+        return say_refusal(number);
+    memcpy(now + image_backup(&volume->image), now, ISC_ZONE);
+    if (file != 0)
+        status = save_file(volume, file);
+    return status == CARD_DONE ? save_copies(&volume->image, COPY_ZONE_1) : status;
+}
+
+void volume_close(struct volume *volume) {
+    image_close(&volume->image);
+}

@@ -1,0 +1,36 @@
+/* A volume on an image: whether it is whole and lawful, mounting it in memory, saving it. */
+#ifndef CARD_VOLUME_H
+#define CARD_VOLUME_H
+
+#include "card_image.h"
+
+/* The parts that are lent to the library. */
+struct volume {
+    struct image image;
+    uint8_t *books;
+    size_t books_len;
+    uint8_t *body;
+    size_t body_len;
+};
+
+/* Whether a copy of zone 1, of which `length` bytes are there, has its mark. */
+int volume_has_mark(const uint8_t *copy, size_t length);
+
+/* The bytes of a copy's books. */
+size_t volume_books(const uint8_t *copy, size_t length);
+
+/* The number that the books of a copy get: 0 for lawful ones, 1 to 4, or 15 if their volume is not as long as the
+   image. `length` bytes of the copy are there. */
+uint32_t volume_examine(const struct image *image, const uint8_t *copy, size_t length);
+
+/* Opens an image, sees that the volume on it is whole, and mounts it in memory. Returns an exit status, after having
+   said what is wrong; then nothing is open. */
+int volume_open(struct volume *volume, const char *path, enum access access);
+
+/* Dismounts it in memory, makes the backup equal in memory, and writes out what changed: in the body the sectors of one
+   file, or nothing if `file` is 0. Returns an exit status. */
+int volume_save(struct volume *volume, uint32_t file);
+
+void volume_close(struct volume *volume);
+
+#endif

@@ -1,6 +1,5 @@
--- Blocks added to a file, each taken and pointed at, keep the rules: the single steps put together. Assumes nothing.
+-- Blocks added to a file, each taken and pointed at, keep the rules: the single steps put together.
 use mathlib.Core.Path.{_≡_, refl, sym, ap, ap₂, _∙_}
-use mathlib.Core.Logic.{_≢_}
 use mathlib.Core.List.{List, [], _∷_}
 use Prim.Native.Nat.{ℕ, _+_, _-_, _≤_, _<_}
 use native.Mathlib.Decide.{decLt}
@@ -19,9 +18,10 @@ use Rattle.tables.proofs.IndexLaws.{length-table}
 use Rattle.tables.proofs.PointerLaws.{cov-join}
 use Rattle.allocation.specs.declared.choice.Found.{Found}
 use Rattle.allocation.specs.declared.tail.Tail.{Tail}
+use Rattle.allocation.specs.declared.tail.Pushed.the-variants.{Joined, Beside, Further}
 use Rattle.allocation.specs.declared.growth.Cursor.{Cursor}
-use Rattle.allocation.specs.Choice.{nextBlock, sectorOf, putBlock, inTurn}
-use Rattle.allocation.specs.Tails.{longer, beside, further}
+use Rattle.allocation.specs.Choice.{nextBlock, blockStart, putBlock, inTurn}
+use Rattle.allocation.specs.NextPointer.{longer, beside, further, placeOf}
 use Rattle.allocation.specs.NewTables.{putChild}
 use Rattle.allocation.specs.Growth.{Growth, pointed, addBlock}
 use Rattle.allocation.specs.Ready.{Head, Ready}
@@ -39,7 +39,7 @@ use Rattle.allocation.proofs.EndsLaws.{end-some, last-start, last-count
 use Rattle.allocation.proofs.WrittenHeld.{joined-held, beside-held}
 use Rattle.allocation.proofs.ExtendedHeld.{extended-held}
 use Rattle.allocation.proofs.HeldLawful.{quiet-trans, calm-quiet}
-use Rattle.allocation.proofs.ReadyLaws.{Taking, add-is, laid-is, here-is, further-is, pointed-here, pointed-further, here-written, taking-head, further-extended, step-taking, ready-step}
+use Rattle.allocation.proofs.ReadyLaws.{Taking, add-is, laid-is, here-is, further-is, pointed-joined, pointed-beside, pointed-further, here-written, taking-head, further-extended, step-taking, ready-step}
 
 -- two runs that meet
 run-join : (v : View) (a c d : ℕ) → Run v a c → Run v (a + c) d → c + d ≤ 32767 → Run v a (c + d)
@@ -72,7 +72,7 @@ module _ (p : Places) (f t : ℕ) (ts : List ℕ) (g : Growth) (ready : Ready p 
   l = g .cursor .tail
 
   abbrev s : ℕ
-  s = sectorOf t k
+  s = blockStart t k
 
   abbrev n : ℕ
   n = blockOf t
@@ -100,7 +100,7 @@ module _ (p : Places) (f t : ℕ) (ts : List ℕ) (g : Growth) (ready : Ready p 
   block-run = new-run can took
 
   block-type : (x : ℕ) → s ≤ x → x < s + n → v .zone (zoneOf x) .ztype ≡ t
-  unfolding sectorOf
+  unfolding blockStart
   block-type x lo hi =
       let q = can .proper in
       let i = block-in (k .number) n (block-of t (q .typed)) (q .within) in
@@ -133,45 +133,42 @@ module _ (p : Places) (f t : ℕ) (ts : List ℕ) (g : Growth) (ready : Ready p 
   }
 
   -- in the last pointer
-  joined : l .last .start .0 + l .last .count ≡ s → l .last .count + n ≤ 32767 → Taking p f b c (longer l n) ts → Lengthened p f g (pointed p f b c (longer l n)) (t ∷ [])
+  joined : l .last .start .0 + l .last .count ≡ s → l .last .count + n ≤ 32767 → Taking p f b c (Joined (longer l n)) ts → Lengthened p f g (pointed p f b c (Joined (longer l n))) (t ∷ [])
   joined e few h =
-      rw (pointed-here p f b c (longer l n) refl, here-is p f b c (longer l n))
+      rw (pointed-joined p f b c (longer l n), here-is p f b c (longer l n))
       (block-longer _ _ _ e
-      (joined-held v _ f c (ready .layout .few) sized block-ends _ nothing block-held (l .tables) n some (here-written p f b c (longer l n) ts h)
+      (joined-held v _ f c (ready .layout .few) sized block-ends _ nothing block-held (l .tables) n some (here-written p f b c (Joined (longer l n)) ts h)
       (run-join v (l .last .start .0) (l .last .count) n old (rw e block-run) few) (λ x. rw e (omega arith)))
-      (calm-quiet (pointer-still p b (c .table .0) (l .at) (longer l n .last) block-layout (ready .low) (ready .high) (omega (arith, ready .at)) .calm)))
+      (calm-quiet (pointer-still p b (c .table .0) (placeOf l) (longer l n .last) block-layout (ready .low) (ready .high) (omega arith) .calm)))
     where
-      some : 1 ≤ block-ends .slot
+      some : 1 ≤ l .slot
       some = end-some v f c block-ends (omega (arith, block-run .low))
 
       old : Run v (l .last .start .0) (l .last .count)
       old =
           let shape = block-held .r6 (c .table .0) (omega (arith, ready .high)) (ready .low) in
-          rw (last-start v f c block-ends some, last-count v f c block-ends some) at (shape .used (block-ends .slot - 1) (omega (arith, block-ends .within, some)) (block-ends .used (block-ends .slot - 1) (omega (arith, some))))
+          rw (last-start v f c block-ends some, last-count v f c block-ends some) at (shape .used (l .slot - 1) (omega (arith, block-ends .within, block-ends .capacity, some)) (block-ends .used (l .slot - 1) (omega (arith, some))))
 
   -- in a pointer of its own beside it
-  stood : l .at + 12 ≤ 124 → Taking p f b c (beside l s n) ts → Lengthened p f g (pointed p f b c (beside l s n)) (t ∷ [])
+  stood : l .slot < l .capacity → Taking p f b c (Beside (beside l s n)) ts → Lengthened p f g (pointed p f b c (Beside (beside l s n))) (t ∷ [])
   stood room h =
-      rw (pointed-here p f b c (beside l s n) refl, here-is p f b c (beside l s n))
+      rw (pointed-beside p f b c (beside l s n), here-is p f b c (beside l s n))
       (block-longer _ _ _ refl
-      (beside-held v _ f c (ready .layout .few) sized block-ends _ nothing block-held (l .tables) (beside l s n .last) (here-written p f b c (beside l s n) ts h) room block-run (λ x. omega arith))
-      (calm-quiet (pointer-still p b (c .table .0) (l .at + 6) (beside l s n .last) block-layout (ready .low) (ready .high) (omega (arith, room)) .calm)))
+      (beside-held v _ f c (ready .layout .few) sized block-ends _ nothing block-held (l .tables) (beside l s n .last) (here-written p f b c (Beside (beside l s n)) ts h) room block-run (λ x. omega arith))
+      (calm-quiet (pointer-still p b (c .table .0) (placeOf (beside l s n)) (beside l s n .last) block-layout (ready .low) (ready .high) (omega arith) .calm)))
 
   -- in a further child's first one
-  chained : 124 < l .at + 12 → Taking p f b c (further l s n) ts → Lengthened p f g (pointed p f b c (further l s n)) (t ∷ [])
+  chained : l .capacity ≤ l .slot → Taking p f b c (Further (further l s n)) ts → Lengthened p f g (pointed p f b c (Further (further l s n))) (t ∷ [])
   chained room h =
-      rw (pointed-further p f b c (further l s n) more, further-is p f b c (further l s n))
+      rw (pointed-further p f b c (further l s n), further-is p f b c (further l s n))
       (block-longer _ _ _ refl
       (extended-held v _ f c (ready .layout .few) sized block-ends _ nothing block-held (l .tables + 1) (further l s n .last)
-      (further-extended p f b c (further l s n) ts h more) room (λ z. omega (arith, head .low)) block-run (λ x. omega arith))
+      (further-extended p f b c (further l s n) ts h) room (λ z. omega (arith, head .low)) block-run (λ x. omega arith))
       (quiet-trans (calm-quiet new)
       (calm-quiet (pointer-still p (putChild p b f (c .table .0)) (firstFreeOf b) 22 (further l s n .last) (rw (new .len) block-layout) (head .low) (head .high) (omega arith) .calm))))
     where
-      more : further l s n .tables ≢ l .tables
-      more e = omega arith
-
       head : Head p b
-      head = taking-head p f b c (further l s n) ts h more
+      head = taking-head p f b c (further l s n) ts h
 
       new : Calm p b (putChild p b f (c .table .0))
       new = child-popped p b f (c .table .0) block-layout head (ready .low) (ready .high) .calm
@@ -182,7 +179,7 @@ add-held p f t ts g ready held ends =
     let k = nextBlock (viewOf p (g .books)) t in
     let b = putBlock p (g .books) t k in
     rw (add-is p f t g, laid-is p f t k g)
-    (push-cases (λ r. Taking p f b (g .cursor) r ts → Lengthened p f g (pointed p f b (g .cursor) r) (t ∷ [])) (g .cursor .tail) (sectorOf t k) (blockOf t)
+    (push-cases (λ r. Taking p f b (g .cursor) r ts → Lengthened p f g (pointed p f b (g .cursor) r) (t ∷ [])) (g .cursor .tail) (blockStart t k) (blockOf t)
     (joined p f t ts g ready held ends) (stood p f t ts g ready held ends) (chained p f t ts g ready held ends) (step-taking p f g t ts ready))
 
 -- ---- blocks in turn

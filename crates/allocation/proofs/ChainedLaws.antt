@@ -1,5 +1,5 @@
 -- The free chain while a file is made and grows: it stays where a pointer of a file is written, and loses its head to a new parent or a
--- further child. Assumes nothing.
+-- further child.
 use mathlib.Core.Path.{_≡_, refl, sym, ap, _∙_}
 use mathlib.Core.Logic.{_≢_, _⊎_, inl, inr}
 use mathlib.Core.List.{List}
@@ -11,14 +11,14 @@ use Rattle.field.proofs.NumberLaws.{kept-putU32}
 use Rattle.field.proofs.Sums.{sum-same, sum-at, sum-some}
 use Rattle.tables.specs.declared.places.Places.{Places}
 use Rattle.tables.specs.declared.index.Pointer.{Pointer}
-use Rattle.tables.specs.Findings.{Each}
+use Rattle.tables.specs.Each.{Each}
 use Rattle.tables.specs.Indexes.{wordOf, linkOf, minus, tableAt}
 use Rattle.tables.specs.Sector1.{freeOf, firstFreeOf}
 use Rattle.tables.specs.Views.{View, viewOf, Free, walk, next, tally}
 use Rattle.tables.specs.Rules.R4.{FreeChain, Own, R4}
 use Rattle.tables.specs.Rules.R9.{freeOne}
 use Rattle.tables.proofs.ChainLaws.{walk-same, walk-once, walk-tail, walk-none}
-use Rattle.tables.proofs.CountLaws.{free-yes, free-no}
+use Rattle.tables.proofs.Sector1CountLaws.{free-yes, free-no}
 use Rattle.allocation.specs.NewTables.{New}
 use Rattle.allocation.specs.Steps.{Written, childBytes, Extended, Made}
 use Rattle.allocation.specs.Ready.{Head, Chained}
@@ -129,7 +129,7 @@ module _ (v v' : View) (x : ℕ) (h : FreeBut v v' x) where
     unfolding tally
     kept-tally = rw (h .indexes) (sum-same (v .indexes) _ _ (λ k l. one-same (k + 1) (omega arith) (omega arith) (not-x (k + 1))))
 
-  -- x was the chain's head, which is now the table behind it
+  -- x was the chain's head, which is now the table after it
   module _ (low : 1 ≤ x) (head : v .head ≡ x) (moved : v' .head ≡ linkOf (v .table x)) where
     module _ (n : ℕ) (c : FreeChain v (suc n)) where
       not-head : (k : ℕ) → k < n → walk (next v) (v .head) (suc k) ≢ x

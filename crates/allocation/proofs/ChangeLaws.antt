@@ -1,5 +1,5 @@
 -- One index table becomes, or stays, one of file f's, and links of f's other tables may change: what follows for the rules, whatever is
--- written. Assumes nothing.
+-- written.
 use mathlib.Core.Path.{_≡_, refl, sym, ap, ap₂, _∙_}
 use mathlib.Core.Logic.{_≢_, _⊎_, inl, inr, ⊎-elim}
 use mathlib.Core.Bool.{cond}
@@ -16,7 +16,7 @@ use Rattle.field.proofs.Sums.{sum-same, sum-at, sum-zero}
 use Rattle.field.proofs.NumberLaws.{u16-kept}
 use Rattle.tables.specs.declared.zone.ZoneEntry.{ZoneEntry}
 use Rattle.tables.specs.Kinds.{zoneOf}
-use Rattle.tables.specs.Findings.{Each}
+use Rattle.tables.specs.Each.{Each}
 use Rattle.tables.specs.Indexes.{wordOf, parentOf, attributeOf, linkOf, minus, slotsOf, startOf, countOf, Used, sectorsOf, fileOf}
 use Rattle.tables.specs.Same.{Ground}
 use Rattle.tables.specs.Views.{View, Begins, Free, Parent, Child, walk, next, onlyIf, tally, cov, overOf, pointersOver, Under}
@@ -26,11 +26,11 @@ use Rattle.tables.specs.Rules.R6.{Run, R6}
 use Rattle.tables.specs.Rules.R8.{fileSectors, File, FileLaw}
 use Rattle.tables.specs.Rules.R9.{freeOne, activeOne, deletedOne, systemOne, directoryOne, R9}
 use Rattle.tables.proofs.ChainLaws.{walk-same, walk-none}
-use Rattle.tables.proofs.IndexLaws.{slots-free, slots-parent, slots-in, file-free, file-parent, file-child}
-use Rattle.tables.proofs.CountLaws.{Ones, only-eq, only-ne, ones-other, free-yes, free-no}
+use Rattle.tables.proofs.IndexLaws.{slots-parent, slots-in, file-free, file-parent, file-child}
+use Rattle.tables.proofs.Sector1CountLaws.{Ones, only-eq, only-ne, ones-other, free-yes, free-no}
 use Rattle.allocation.specs.declared.growth.Cursor.{Cursor}
 use Rattle.allocation.specs.Steps.{SameCounts}
-use Rattle.allocation.specs.Held.{Shapely, Held, Ends, InType}
+use Rattle.allocation.specs.Held.{ShapeBut, Held, Ends, InType}
 use Rattle.allocation.proofs.ChainedLaws.{FreeBut, tally-part, free-but, kept-R4, popped-R4}
 use Rattle.allocation.proofs.FileSame.{file-same}
 use Rattle.allocation.proofs.PointerBytes.{word-kept, parent-kept, slots-kept, file-kept, start-kept, count-kept}
@@ -81,7 +81,7 @@ parent-under v r6 p par =
     first-under v p par (shape .used 0 (omega (arith, parent-slots v p par)) (shape .one (par .word)))
 
 -- R6 as a growing file f keeps it: what lies under a pointer is a run, and another file's parent has a first one
-module _ (v : View) (f : ℕ) (r6 : Each (λ i. Shapely v f i (v .table i)) 1 (v .indexes + 1)) where
+module _ (v : View) (f : ℕ) (r6 : Each (λ i. ShapeBut v f i (v .table i)) 1 (v .indexes + 1)) where
   pub under-run : (i j s : ℕ) → Under v i j s → Run v (startOf i (v .table i) j) (countOf i (v .table i) j)
   under-run i j s u = r6 i (omega (arith, u .high)) (u .low) .used j (u .slot) (omega (arith, u .from, u .to))
 
@@ -106,11 +106,6 @@ module _ (v : View) (few : v .indexes ≤ 4096) (p n : ℕ) (par : Parent v p) (
 -- what is used is not free
 pub used-not : (v : View) (i j w : ℕ) → Free v j → Begins v i w → w ≢ 0 → i ≢ j
 used-not v i j w free h nz e = nz (sym (h .word) ∙ ap (λ (n : ℕ). wordOf (v .table n)) e ∙ free .word)
-
--- a free table is no part of a sum over pointers
-pub over-free : (i : ℕ) (t : List ℕ) (s : ℕ) → wordOf t ≡ 0 → overOf i t s ≡ 0
-unfolding overOf
-over-free i t s e = sum-zero (slotsOf i t) _ (λ k l. absurd (omega (arith, slots-free i t e)))
 
 -- a sum of which only the first part is more than 0
 pub sum-first : (n : ℕ) (f : ℕ → ℕ) → 0 < n → ((k : ℕ) → k < n → 0 < k → f k ≡ 0) → sumTo n f ≡ f 0
@@ -212,8 +207,8 @@ module _ (v v' : View) (f x : ℕ) (h : Changed v v' f x) where
     pub begins-was : (w : ℕ) → Begins v' j w → Begins v j w
     begins-was w b = record { low = lo; high = hi; word = sym word-there ∙ b .word }
 
-    pub shapely-there : Shapely v f j (v .table j) → Shapely v' f j (v' .table j)
-    shapely-there s = record {
+    pub shape-but-there : ShapeBut v f j (v .table j) → ShapeBut v' f j (v' .table j)
+    shape-but-there s = record {
       first = λ k l u. (let l' : suc k < slotsOf j (v .table j) = rw slots-there at l in
           rw (start-there k (omega arith), count-there k (omega arith)) (s .first k l' (rw (start-there (suc k) l', count-there (suc k) l') at u)));
       used = λ k l u. (let l' : k < slotsOf j (v .table j) = rw slots-there at l in
@@ -317,10 +312,10 @@ module _ (v v' : View) (f x : ℕ) (h : Changed v v' f x) where
 
   -- ---- R6, R8 and what lies in zones of one type
 
-  pub changed-R6 : Shapely v' f x (v' .table x) → Each (λ i. Shapely v f i (v .table i)) 1 (v .indexes + 1) → Each (λ i. Shapely v' f i (v' .table i)) 1 (v' .indexes + 1)
+  pub changed-R6 : ShapeBut v' f x (v' .table x) → Each (λ i. ShapeBut v f i (v .table i)) 1 (v .indexes + 1) → Each (λ i. ShapeBut v' f i (v' .table i)) 1 (v' .indexes + 1)
   changed-R6 new r j l lo =
       let hi : j ≤ v .indexes = omega (arith, h .indexes) in
-      elim (ℕ-discrete j x) [ yes e ↦ rw e new | no ne ↦ shapely-there j lo hi ne (r j (omega arith) lo) ]
+      elim (ℕ-discrete j x) [ yes e ↦ rw e new | no ne ↦ shape-but-there j lo hi ne (r j (omega arith) lo) ]
 
   -- sums over the tables change by x's part
   tally-at : (g : ℕ → List ℕ → ℕ) → ((j : ℕ) → 1 ≤ j → j ≤ v .indexes → j ≢ x → g j (v' .table j) ≡ g j (v .table j))
@@ -338,7 +333,7 @@ module _ (v v' : View) (f x : ℕ) (h : Changed v v' f x) where
       (λ j lo hi ne. ap₂ (λ (a c : ℕ). onlyIf (eqb a f) c) (file-there j lo hi ne) (sectors-there j lo hi ne))
       ∙ ap (λ (n : ℕ). tally v (λ i t. onlyIf (eqb (fileOf i t) f) (sectorsOf i t)) + n) (only-eq (fileOf x (v' .table x)) f (sectorsOf x (v' .table x)) (h .now))
 
-  module _ (r6 : Each (λ i. Shapely v f i (v .table i)) 1 (v .indexes + 1)) where
+  module _ (r6 : Each (λ i. ShapeBut v f i (v .table i)) 1 (v .indexes + 1)) where
     pub under-zone : (i j s : ℕ) → Under v i j s → v' .zone (zoneOf s) ≡ v .zone (zoneOf s)
     under-zone i j s u = ground-zone v v' (h .ground) s (omega (arith, under-run v f r6 i j s u .high, u .to))
 

@@ -1,4 +1,4 @@
--- A new file with its blocks: the books meet the nine rules again. Assumes nothing.
+-- A new file with its blocks: the books meet the nine rules again.
 use mathlib.Core.Path.{_≡_, refl}
 use mathlib.Core.List.{List, [], _∷_}
 use Prim.Native.Nat.{ℕ, _≤_}
@@ -10,13 +10,14 @@ use Rattle.tables.specs.Places.{Layout}
 use Rattle.tables.specs.Indexes.{tableAt, Used}
 use Rattle.tables.specs.Sector1.{firstFreeOf}
 use Rattle.tables.specs.Views.{View, viewOf}
-use Rattle.tables.specs.Rules.R8.{systemBit, directoryBit, fileSectors, FileLaw}
+use Rattle.tables.specs.Rules.R8.{fileSectors, FileLaw}
+use Rattle.tables.specs.Indexes.{systemBit, directoryBit}
 use Rattle.tables.specs.Lawful.{Lawful}
 use Rattle.tables.proofs.BlockLaws.{block-of}
 use Rattle.tables.proofs.IndexLaws.{length-table}
 use Rattle.allocation.specs.Choice.{inOrder, inTurn}
-use Rattle.allocation.specs.Tails.{noPointer}
-use Rattle.allocation.specs.NewTables.{New, putParent}
+use Rattle.allocation.specs.NextPointer.{noPointer}
+use Rattle.allocation.specs.NewTables.{New, putNewParent}
 use Rattle.allocation.specs.Growth.{Growth, addBlock}
 use Rattle.allocation.specs.Stock.{AllTyped}
 use Rattle.allocation.specs.Ready.{Head, Ready}
@@ -24,7 +25,7 @@ use Rattle.allocation.specs.Steps.{parentBytes, Made}
 use Rattle.allocation.specs.Held.{Ends}
 use Rattle.allocation.specs.Lengthened.{sectorsIn, Quiet, Lengthened}
 use Rattle.allocation.specs.NewLawful.{NewLawful}
-use Rattle.allocation.specs.Files.{Provided, started, created}
+use Rattle.allocation.specs.MadeFiles.{Provided, started, created}
 use Rattle.allocation.proofs.OrderLaws.{order-typed}
 use Rattle.allocation.proofs.FileLaws.{provided-head, started-made}
 use Rattle.allocation.proofs.PointerBytes.{parent-length, parent-name, parent-created, parent-changed, parent-long, parent-attribute}
@@ -87,7 +88,7 @@ module _ (p : Places) (b : List ℕ) (n : New) (counts : List ℕ) (provided : P
   unfolding started
   start-quiet =
       let k = parent-popped p b n (provided .layout) some-head (new .name .most) (new .date .long) .calm in
-      quiet-trans (calm-quiet k) (calm-quiet (file-counted p (putParent p b n) (systemBit (n .attribute)) (directoryBit (n .attribute)) (n .date)
+      quiet-trans (calm-quiet k) (calm-quiet (file-counted p (putNewParent p b n) (systemBit (n .attribute)) (directoryBit (n .attribute)) (n .date)
       (rw (k .len) (provided .layout)) (new .date .long) .calm))
 
   -- ---- with its blocks

@@ -1,5 +1,4 @@
--- A child comes off the free chain, stands behind a file's last table, which is full, and has its first pointer. The rules hold as before.
--- Assumes nothing.
+-- A child comes off the free chain, comes after a file's last table, which is full, and has its first pointer. The rules hold as before.
 use mathlib.Core.Path.{_≡_, refl, sym, ap, ap₂, _∙_}
 use mathlib.Core.Logic.{_≢_, inl, inr}
 use mathlib.Core.List.{List}
@@ -18,18 +17,17 @@ use Rattle.tables.specs.Rules.R5.{Full, FileChain, Stands, R5}
 use Rattle.tables.specs.Rules.R6.{Run}
 use Rattle.tables.specs.Rules.R9.{freeOne}
 use Rattle.tables.proofs.ChainLaws.{walk-same, walk-once}
-use Rattle.tables.proofs.ChildLaws.{chain-one}
+use Rattle.tables.proofs.ChainLaws.{chain-one}
 use Rattle.tables.proofs.IndexLaws.{slots-child, base-child, file-child}
-use Rattle.tables.proofs.PointerLaws.{cov-none}
-use Rattle.tables.proofs.CountLaws.{only-ne, ones-other}
+use Rattle.tables.proofs.PointerLaws.{cov-none, over-none}
+use Rattle.tables.proofs.Sector1CountLaws.{only-ne, ones-other}
 use Rattle.tables.proofs.SameLaws.{ground-R2, ground-R3}
 use Rattle.allocation.specs.declared.growth.Cursor.{Cursor}
 use Rattle.allocation.specs.Steps.{withPointer, childBytes, Extended}
-use Rattle.allocation.specs.Held.{Shapely, Held, Ends}
+use Rattle.allocation.specs.Held.{ShapeBut, Held, Ends}
 use Rattle.allocation.proofs.PointerBytes.{word-kept, parent-kept, kept-pointer, pointer-start, pointer-count, pointer-read, child-length, child-word, child-parent, child-zero32, child-zero16}
 use Rattle.allocation.proofs.ChainedLaws.{head-free}
-use Rattle.allocation.proofs.ChangeLaws.{Changed, Longer, member-begins, free-file, used-not, over-free, sum-first, ground-zone, ground-run, full-there, parent-there, begins-there, begins-was, pop-R4, changed-R5, changed-R6, pointers-at, sectors-at, changed-types, changed-R8, free-less, changed-R9}
-use Rattle.allocation.proofs.LastLaws.{slots-end}
+use Rattle.allocation.proofs.ChangeLaws.{Changed, Longer, member-begins, free-file, used-not, sum-first, ground-zone, ground-run, full-there, parent-there, begins-there, begins-was, pop-R4, changed-R5, changed-R6, pointers-at, sectors-at, changed-types, changed-R8, free-less, changed-R9}
 use Rattle.allocation.proofs.EndsLaws.{end-begins, end-file}
 
 -- ---- the new child's bytes
@@ -83,7 +81,7 @@ module _ (x f : ℕ) (q : Pointer) (lo : 1 ≤ x) (hi : x ≤ 4096) where
 -- ---- the step
 
 module _ (v v' : View) (f : ℕ) (q : Pointer) (c : Cursor) (w : Extended v v' f (c .table .0) q) (few : v .indexes ≤ 4096)
-    (sized : (j : ℕ) → 1 ≤ j → j ≤ v .indexes → length (v .table j) ≡ 128) (e : Ends v f c) (room : 124 < c .tail .at + 12) (free : Free v (v .head))
+    (sized : (j : ℕ) → 1 ≤ j → j ≤ v .indexes → length (v .table j) ≡ 128) (e : Ends v f c) (room : c .tail .capacity ≤ c .tail .slot) (free : Free v (v .head))
     (run : Run v (q .start .0) (q .count)) where
   abbrev x : ℕ
   x = v .head
@@ -100,15 +98,12 @@ module _ (v v' : View) (f : ℕ) (q : Pointer) (c : Cursor) (w : Extended v v' f
   i-file : fileOf i (v .table i) ≡ f
   i-file = end-file v few f c e
 
-  i-not : i ≢ x
-  i-not = used-not v i x _ free (i-begins .1) (i-begins .2)
-
   f-not : f ≢ x
   f-not = used-not v f x f free (e .parent) (λ z. omega (arith, e .parent .low))
 
   -- the last table is full
   full : Full v i
-  full l h = e .used l (omega (arith, e .place, slots-end i (v .table i) (λ z. i-begins .2 (sym (i-begins .1 .word) ∙ z))))
+  full l h = e .used l (omega (arith, e .capacity))
 
   change : Changed v v' f x
   change = record {
@@ -195,8 +190,8 @@ module _ (v v' : View) (f : ℕ) (q : Pointer) (c : Cursor) (w : Extended v v' f
       let z = rw (w .new) at u in
       omega (arith, no-start x f q (free .low) small l h, no-count x f q (free .low) small l h)
 
-  shapely : Shapely v' f x t'
-  shapely = record {
+  shape-but : ShapeBut v' f x t'
+  shape-but = record {
     first = λ l h u. absurd (unused-next (suc l) (omega arith) u);
     used = λ l h u. elim (ℕ-discrete l 0) [
       | yes g ↦ rw (g, w .new, new-start x f q (free .low) small, new-count x f q (free .low) small) (ground-run v v' (w .ground) _ _ run)
@@ -207,16 +202,16 @@ module _ (v v' : View) (f : ℕ) (q : Pointer) (c : Cursor) (w : Extended v v' f
   }
 
   child-held : (d d' : ℕ → ℕ) → ((s : ℕ) → cov (q .start .0) (q .count) s + d' s ≡ d s) → Held v f d → (k : ℕ)
-      → Longer v v' f (q .start .0) (q .count) d' (record { tail = record { last = q; at = 22; tables = k }; table = record { 0 = v .head } })
+      → Longer v v' f (q .start .0) (q .count) d' (record { tail = record { last = q; slot = 1; capacity = 17; tables = k }; table = record { 0 = v .head } })
   child-held d d' less h k = record {
     held = record {
       r2 = ground-R2 v v' (w .ground) (h .r2);
       r3 = ground-R3 v v' (w .ground) (h .r3);
       r4 = pop-R4 v v' f x change refl (w .head) (h .r4);
       r5 = changed-R5 v v' f x change (h .r5) (suc (e .long)) chain (stands (h .r5)) (λ b. (0, rw slots (omega arith), used-first));
-      r6 = changed-R6 v v' f x change shapely (h .r6);
+      r6 = changed-R6 v v' f x change shape-but (h .r6);
       r7 = λ s l lo. (let l' : s < 1024 * (v .zones - 1) = rw (w .ground .zones) at l in
-          omega (arith, pointers-at v v' f x change s, over-free x (v .table x) s (free .word), over s, less s, h .r7 s l' lo, w .ground .bit s (omega arith)));
+          omega (arith, pointers-at v v' f x change s, over-none x (v .table x) s (free .word), over s, less s, h .r7 s l' lo, w .ground .bit s (omega arith)));
       r8 = changed-R8 v v' f x change (h .r6) (h .r8);
       r9 = changed-R9 v v' f x change 0 0 (freeOne x (v .table x)) 0 0 0 0 (freeOne x t') 0 0 (ones-other x (v .table x) (λ g. omega (arith, free .low, free .word)))
           (ones-other x t' (λ g. omega (arith, child .word, free .low, small)))
@@ -228,9 +223,8 @@ module _ (v v' : View) (f : ℕ) (q : Pointer) (c : Cursor) (w : Extended v v' f
       long = suc (e .long);
       chain = chain;
       table = walk-new;
-      slot = 1;
-      within = rw slots (omega arith);
-      place = omega (arith, base);
+      capacity = sym slots;
+      within = omega arith;
       used = λ l g. (let z : l ≡ 0 = omega arith in rw z used-first);
       unused = λ l g o. unused-next l (omega arith);
       pointer = λ g. rw (w .new) (pointer-read (childBytes x f) 22 q (child-length x f) (omega arith));
@@ -262,7 +256,7 @@ module _ (v v' : View) (f : ℕ) (q : Pointer) (c : Cursor) (w : Extended v v' f
       ]
 
 pub extended-held : (v v' : View) (f : ℕ) (c : Cursor) → v .indexes ≤ 4096 → ((j : ℕ) → 1 ≤ j → j ≤ v .indexes → length (v .table j) ≡ 128) → Ends v f c
-    → (d d' : ℕ → ℕ) → Held v f d → (k : ℕ) (q : Pointer) → Extended v v' f (c .table .0) q → 124 < c .tail .at + 12 → v .head ≢ 0 → Run v (q .start .0) (q .count)
+    → (d d' : ℕ → ℕ) → Held v f d → (k : ℕ) (q : Pointer) → Extended v v' f (c .table .0) q → c .tail .capacity ≤ c .tail .slot → v .head ≢ 0 → Run v (q .start .0) (q .count)
     → ((s : ℕ) → cov (q .start .0) (q .count) s + d' s ≡ d s)
-    → Longer v v' f (q .start .0) (q .count) d' (record { tail = record { last = q; at = 22; tables = k }; table = record { 0 = v .head } })
+    → Longer v v' f (q .start .0) (q .count) d' (record { tail = record { last = q; slot = 1; capacity = 17; tables = k }; table = record { 0 = v .head } })
 extended-held v v' f c few sized e d d' h k q w room head run less = child-held v v' f q c w few sized e room (head-free v (h .r4) head) run d d' less h k

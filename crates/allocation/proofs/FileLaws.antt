@@ -1,4 +1,4 @@
--- A new file and a file that grows: what their blocks ask is there, from what a request provides. Assumes nothing.
+-- A new file and a file that grows: what their blocks ask is there, from what a request provides.
 use mathlib.Core.Path.{_≡_, refl, sym, ap, _∙_}
 use mathlib.Core.Logic.{_≢_, ⊎-elim}
 use mathlib.Core.List.{List, [], _∷_, append-nil}
@@ -7,48 +7,49 @@ use native.Mathlib.Nat.{div-le-self, mul-le-mul-right}
 use native.Mathlib.Decide.{ℕ-discrete}
 use native.Mathlib.Omega.{arith}
 use lib.Dec.{eqb}
-use lib.ListN.{length, getD, replicate, length-append, length-set, length-replicate}
-use lib.Seq.{getD-set-same, getD-set-other}
+use lib.ListN.{length, getD, set, replicate, length-append, length-replicate}
 use Rattle.field.specs.Numbers.{u16At}
 use Rattle.field.specs.Sum.{sumTo}
-use Rattle.field.proofs.NumberLaws.{getD-zeros}
 use Rattle.field.proofs.Sums.{sum-le, sum-part}
 use Rattle.tables.specs.declared.places.Places.{Places}
 use Rattle.tables.specs.declared.kinds.Index.{Index}
 use Rattle.tables.specs.Kinds.{firstOf}
 use Rattle.tables.specs.Blocks.{Typed, blockOf}
-use Rattle.tables.specs.Indexes.{wordOf, attributeOf, baseOf}
+use Rattle.tables.specs.Indexes.{slotsOf, baseOf, directoryBit, systemBit, pointerPlace}
 use Rattle.tables.specs.Open.{isOpen, openZones}
 use Rattle.tables.specs.Places.{Layout}
-use Rattle.tables.specs.Room.{countAt, perZone, spareIn, spareOf, lackOf, Enough}
+use Rattle.tables.specs.Room.{countAt, spareIn, spareOf, lackOf, Enough}
+use Rattle.tables.specs.Blocks.{perZone}
 use Rattle.tables.specs.Sector1.{freeOf, firstFreeOf, activeOf, systemOf, directoryOf}
-use Rattle.tables.specs.Views.{View, viewOf, Begins, Free, Parent, tally, onlyIf}
+use Rattle.tables.specs.Views.{View, viewOf, Begins, Free, Parent, onlyIf}
 use Rattle.tables.specs.Lawful.{Lawful}
 use Rattle.tables.specs.Rules.R3.{R3}
 use Rattle.tables.specs.Rules.R6.{Shape}
-use Rattle.tables.specs.Rules.R8.{directoryBit, systemBit}
-use Rattle.tables.specs.Rules.R9.{deletedBit, activeOne, systemOne, directoryOne}
+use Rattle.tables.specs.Rules.R9.{activeOne, systemOne, directoryOne}
 use Rattle.tables.proofs.BlockLaws.{six}
 use Rattle.tables.proofs.ChoiceLaws.{ceil-enough}
-use Rattle.tables.proofs.CountLaws.{only-eq, only-ne, only-le}
+use Rattle.tables.proofs.Sector1CountLaws.{only-le, tally-few, active-le, system-le, directory-le}
+use Rattle.tables.proofs.IndexLaws.{slots-free, slots-in}
 use Rattle.tables.proofs.LackLaws.{some-blocks, in-open, in-other, in-begun}
 use Rattle.allocation.specs.declared.tail.Tail.{Tail}
 use Rattle.allocation.specs.declared.growth.Cursor.{Cursor}
 use Rattle.allocation.specs.Choice.{inOrder, inTurn}
-use Rattle.allocation.specs.Tails.{noPointer, tablesFor}
-use Rattle.allocation.specs.NewTables.{New, putParent, countFile}
+use Rattle.allocation.specs.NextPointer.{noPointer}
+use Rattle.allocation.specs.Plans.{tablesFor}
+use Rattle.allocation.specs.NewTables.{New, putNewParent, countFile}
 use Rattle.allocation.specs.Growth.{Growth, addBlock}
-use Rattle.allocation.specs.Last.{lastTable, usedPointers, lastPlace, cursorOf}
+use Rattle.allocation.specs.Last.{lastTable, usedPointers, cursorOf}
 use Rattle.allocation.specs.Stock.{Stocked, Plannable}
 use Rattle.allocation.specs.Steps.{SameCounts, Made}
-use Rattle.allocation.specs.Ready.{Head, Chained, Ready}
-use Rattle.allocation.specs.Files.{onlyCounts, Provided, started, created, putLength, grown}
-use Rattle.allocation.proofs.SearchLaws.{either}
+use Rattle.allocation.specs.Ready.{Head, InTable, Chained, Ready}
+use Rattle.allocation.specs.MadeFiles.{onlyCounts, Provided, started, created, putChange, grown}
+use Rattle.allocation.proofs.FindLaws.{either}
 use Rattle.allocation.proofs.NextGround.{stocked-ground}
 use Rattle.allocation.proofs.OrderLaws.{order-typed, order-enough}
-use Rattle.allocation.proofs.LastLaws.{last-table, used-le, used-before, base-low, place-in, last-shape, last-some}
+use Rattle.allocation.proofs.LastLaws.{last-table, used-le, used-before, slots-end, last-shape, last-some}
+use Rattle.tables.proofs.IndexLaws.{base-low}
 use Rattle.allocation.proofs.ChangeLaws.{member-begins}
-use Rattle.allocation.proofs.StepLaws.{parent-popped, length-putParent, length-countFile, parent-made}
+use Rattle.allocation.proofs.StepLaws.{parent-popped, length-putNewParent, length-countFile, parent-made}
 use Rattle.allocation.proofs.PlanLaws.{tables-least, tables-ground}
 use Rattle.allocation.proofs.ChainedLaws.{chained-head, chained-free, made-used, chained-made}
 
@@ -56,19 +57,21 @@ use Rattle.allocation.proofs.ChainedLaws.{chained-head, chained-free, m
 
 pub length-only : (t n : ℕ) → length (onlyCounts t n) ≡ 6
 unfolding onlyCounts
-length-only t n = length-set (replicate 6 0) (8 - t) n
+length-only t n = refl
 
 pub order-only : (t n : ℕ) → Typed t → inOrder (onlyCounts t n) ≡ replicate n t
-unfolding inOrder onlyCounts
+unfolding inOrder onlyCounts onlyIf
 order-only t n = six (λ t. inOrder (onlyCounts t n) ≡ replicate n t)
     (append-nil (replicate n 3)) (append-nil (replicate n 4)) (append-nil (replicate n 5)) (append-nil (replicate n 6)) (append-nil (replicate n 7)) (append-nil (replicate n 8)) t
 
 pub count-only : (t n u : ℕ) → Typed t → Typed u → countAt (onlyCounts t n) u ≡ onlyIf (eqb u t) n
 unfolding onlyCounts
-count-only t n u typed typed' = elim (ℕ-discrete u t) [
-  | yes e ↦ rw (only-eq u t n e, e) (getD-set-same (replicate 6 0) (8 - t) n 0 (omega (arith, typed .low)))
-  | no ne ↦ rw (only-ne u t n ne) (getD-set-other (replicate 6 0) (8 - t) (8 - u) n 0 (λ e. ne (omega (arith, typed .high, typed' .high))) ∙ getD-zeros 6 (8 - u))
-]
+count-only t n u typed = six (λ u. countAt (onlyCounts t n) u ≡ onlyIf (eqb u t) n) refl refl refl refl refl refl u
+
+-- the count, put at its place among zeros
+pub only-put : (t n : ℕ) → Typed t → set (replicate 6 0) (8 - t) n ≡ onlyCounts t n
+unfolding onlyCounts onlyIf
+only-put t n = six (λ t. set (replicate 6 0) (8 - t) n ≡ onlyCounts t n) refl refl refl refl refl refl t
 
 -- ---- how many blocks there can be
 
@@ -135,12 +138,11 @@ module _ (p : Places) (b : List ℕ) (counts : List ℕ) (layout : Layout p (len
   order-stocked : Stocked (viewOf p b) (inOrder counts)
   order-stocked = record { r2 = lawful .r2; r3 = lawful .r3; typed = order-typed counts six; enough = order-enough (viewOf p b) counts six room }
 
-  pub plannable-start : (l : Tail) → l .last .count ≤ 32767 → l .at ≤ 118 → l .tables ≤ 1 → Plannable p (record { books = b; tail = l }) (inOrder counts)
-  plannable-start l count at tables = record {
+  pub plannable-start : (l : Tail) → l .last .count ≤ 32767 → l .tables ≤ 1 → Plannable p b l (inOrder counts)
+  plannable-start l count tables = record {
     layout = layout;
     stocked = order-stocked;
     count = count;
-    at = at;
     few = omega (arith, order-most);
   }
 
@@ -156,30 +158,13 @@ tables-head p b ts c l = chained-head p b c (omega (arith, tables-least p b noPo
 pub provided-head : (p : Places) (b counts : List ℕ) → Provided p b noPointer counts → Head p b
 provided-head p b counts h = tables-head p b (inOrder counts) (chained-lawful p b (h .lawful)) (h .tables)
 
--- R9's counts are at most the number of tables
-tally-few : (v : View) (f : ℕ → List ℕ → ℕ) → ((i : ℕ) (t : List ℕ) → f i t ≤ 1) → tally v f ≤ v .indexes
-unfolding tally
-tally-few v f h = sum-le (v .indexes) (λ k. f (k + 1) (v .table (k + 1))) (λ k l. h (k + 1) (v .table (k + 1)))
-
-active-le : (i : ℕ) (t : List ℕ) → activeOne i t ≤ 1
-unfolding activeOne
-active-le i t = omega (arith, only-le (eqb (wordOf t) i) (1 - deletedBit (attributeOf t)))
-
-system-le : (i : ℕ) (t : List ℕ) → systemOne i t ≤ 1
-unfolding systemOne
-system-le i t = omega (arith, only-le (eqb (activeOne i t) 1) (systemBit (attributeOf t)))
-
-directory-le : (i : ℕ) (t : List ℕ) → directoryOne i t ≤ 1
-unfolding directoryOne
-directory-le i t = omega (arith, only-le (eqb (activeOne i t) 1) (directoryBit (attributeOf t)))
-
 -- what the parent's making leaves of sector 1: the counts can be raised
 module _ (p : Places) (b counts name date : List ℕ) (long attribute : ℕ) (x : List ℕ) (h : Provided p b noPointer counts) (ln : length name ≤ 24) (ld : length date ≡ 6)
-    (ex : x ≡ putParent p b (record { name = name; date = date; length = long; attribute = attribute })) where
+    (ex : x ≡ putNewParent p b (record { name = name; date = date; length = long; attribute = attribute })) where
   abbrev n : New
   n = record { name = name; date = date; length = long; attribute = attribute }
 
-  left : SameCounts (viewOf p b) (viewOf p (putParent p b n))
+  left : SameCounts (viewOf p b) (viewOf p (putNewParent p b n))
   left = parent-popped p b n (h .layout) (provided-head p b counts h) ln ld .counts
 
   pub start-active : activeOf x < 4294967295
@@ -192,7 +177,7 @@ module _ (p : Places) (b counts name date : List ℕ) (long attribute : ℕ) (x 
   start-directory = rw ex (omega (arith, left .directory, h .lawful .r9 .directory, tally-few (viewOf p b) directoryOne directory-le, h .layout .few))
 
 pub start-is : (p : Places) (b name date x y : List ℕ) (long attribute : ℕ) (f : Index) → f .0 ≡ firstFreeOf b
-    → x ≡ putParent p b (record { name = name; date = date; length = long; attribute = attribute }) → y ≡ countFile x (attribute / 64 % 2) (attribute / 32 % 2) date
+    → x ≡ putNewParent p b (record { name = name; date = date; length = long; attribute = attribute }) → y ≡ countFile x (attribute / 64 % 2) (attribute / 32 % 2) date
     → _≡_ {A = Growth} (record { books = y; cursor = record { tail = noPointer; table = f } }) (started p b (record { name = name; date = date; length = long; attribute = attribute }))
 unfolding started
 start-is p b name date x y long attribute f ef ex ey = rw (ey, ex, ← ef)
@@ -210,8 +195,8 @@ module _ (p : Places) (b : List ℕ) (n : New) (layout : Layout p (length b)) (h
   started-layout : Layout p (length (started p b n .books))
   unfolding started
   started-layout =
-      let l = length-putParent p b n layout head name date in
-      rw (length-countFile p (putParent p b n) (systemBit (n .attribute)) (directoryBit (n .attribute)) (n .date) (rw l layout) date, l) layout
+      let l = length-putNewParent p b n layout head name date in
+      rw (length-countFile p (putNewParent p b n) (systemBit (n .attribute)) (directoryBit (n .attribute)) (n .date) (rw l layout) date, l) layout
 
 -- blocks of these types are then to be added; of the rules only those of zones, blocks and the free chain are asked
 module _ (p : Places) (b ts : List ℕ) (n : New) (layout : Layout p (length b)) (stocked : Stocked (viewOf p b) ts) (chained : Chained p b) (few : length ts < 1099511627776)
@@ -238,9 +223,7 @@ module _ (p : Places) (b ts : List ℕ) (n : New) (layout : Layout p (length b))
         low = rw (started-cursor p b n) (begun-head .low);
         high = rw (started-cursor p b n) (begun-head .high);
         used = rw (started-cursor p b n) (made-used p b b' n _ _ made name date begun-free);
-        count = rw (started-cursor p b n) (omega arith);
-        from = rw (started-cursor p b n) (omega arith);
-        at = rw (started-cursor p b n) (omega arith);
+        tail = rw (started-cursor p b n) (record { count = omega arith; within = omega arith; most = omega arith; from = omega arith });
         few = rw (started-cursor p b n) (omega (arith, few));
         enough = rw (started-cursor p b n) (omega (arith, tables-ground p p b b' noPointer ts layout long (made .ground) stocked, tables, made .free, begun-head .some));
         file = omega (arith, begun-head .high, layout .few);
@@ -256,18 +239,11 @@ ready-start p b counts n h =
 
 -- the last of a table's pointers
 module _ (v : View) (i : ℕ) (t : List ℕ) (s : Shape v i t) (some : 1 ≤ usedPointers i t) where
-  place-is : lastPlace i t ≡ baseOf i t + 6 * (usedPointers i t - 1)
-  unfolding lastPlace
-  place-is = omega arith
+  place-is : pointerPlace (slotsOf i t) (usedPointers i t) ≡ baseOf i t + 6 * (usedPointers i t - 1)
+  place-is = omega (arith, used-le i t, base-low i t, slots-end i t (λ z. omega (arith, used-le i t, slots-free i t z)))
 
-  place-low : 22 ≤ lastPlace i t
-  place-low = omega (arith, place-is, base-low i t)
-
-  place-high : lastPlace i t ≤ 118
-  place-high = omega (arith, place-is, place-in i t)
-
-  place-count : u16At t (lastPlace i t + 4) ≤ 32767
-  place-count = rw place-is (s .used (usedPointers i t - 1) (omega (arith, used-le i t)) (used-before i t (usedPointers i t - 1) (omega arith)) .few)
+  last-few : u16At t (pointerPlace (slotsOf i t) (usedPointers i t) + 4) ≤ 32767
+  last-few = rw place-is (s .used (usedPointers i t - 1) (omega (arith, used-le i t)) (used-before i t (usedPointers i t - 1) (omega arith)) .few)
 
 module _ (p : Places) (b : List ℕ) (f : ℕ) (lay : Layout p (length b)) (law : Lawful p b) (parent : Parent (viewOf p b) f) where
   abbrev v : View
@@ -287,20 +263,24 @@ module _ (p : Places) (b : List ℕ) (f : ℕ) (lay : Layout p (length b)) (law 
   abbrev some : 1 ≤ usedPointers i (v .table i)
   some = last-some v f (law .r5) (law .r6) parent
 
-  pub cursor-bounds : (cursorOf p b f .tail .last .count ≤ 32767) × (cursorOf p b f .tail .at ≤ 118) × (cursorOf p b f .tail .tables ≤ 1)
+  cursor-in-table : InTable (cursorOf p b f .tail)
   unfolding cursorOf
-  cursor-bounds = (place-count v i (v .table i) shape some, place-high v i (v .table i) shape some, omega arith)
+  cursor-in-table = record {
+    count = last-few v i (v .table i) shape some;
+    within = used-le i (v .table i);
+    most = omega (arith, slots-in i (v .table i), base-low i (v .table i));
+    from = omega (arith, place-is v i (v .table i) shape some, base-low i (v .table i));
+  }
 
-  grow-from : 22 ≤ cursorOf p b f .tail .at
+  pub cursor-bounds : (cursorOf p b f .tail .last .count ≤ 32767) × (cursorOf p b f .tail .tables ≤ 1)
   unfolding cursorOf
-  grow-from = place-low v i (v .table i) shape some
+  cursor-bounds = (last-few v i (v .table i) shape some, omega arith)
 
 pub ready-grow : (p : Places) (b : List ℕ) (f : ℕ) (counts : List ℕ) → Provided p b (cursorOf p b f .tail) counts → Parent (viewOf p b) f
     → Ready p f (record { books = b; cursor = cursorOf p b f }) (inOrder counts)
 unfolding cursorOf
 ready-grow p b f counts h parent =
     let l = last-begins p b f (h .layout) (h .lawful) parent in
-    let c = cursor-bounds p b f (h .layout) (h .lawful) parent in
     record {
       layout = h .layout;
       stocked = order-stocked p b counts (h .layout) (h .lawful) (h .six) (h .room);
@@ -308,9 +288,7 @@ ready-grow p b f counts h parent =
       low = l .1 .low;
       high = l .1 .high;
       used = λ z. l .2 (sym (l .1 .word) ∙ z);
-      count = c .0;
-      from = grow-from p b f (h .layout) (h .lawful) parent;
-      at = c .1;
+      tail = cursor-in-table p b f (h .layout) (h .lawful) parent;
       few = omega (arith, order-most p b counts (h .layout) (h .lawful) (h .six) (h .room));
       enough = omega (arith, h .tables);
       file = omega (arith, parent .high, h .layout .few);
@@ -344,8 +322,8 @@ module _ (p : Places) (b : List ℕ) (f : ℕ) (counts : List ℕ) (c : Cursor) 
 
   pub grow-is : (x y date : List ℕ) (long : ℕ) (r : Cursor)
       → _≡_ {A = Growth} (record { books = x; cursor = r }) (inTurn (addBlock p f) (inOrder counts) (record { books = b; cursor = c }))
-      → y ≡ putLength p x f long date → y ≡ grown p b f counts long date
+      → y ≡ putChange p x f long date → y ≡ grown p b f counts long date
   unfolding grown
   grow-is x y date long r ex ey =
       let e : _≡_ {A = Growth} (record { books = x; cursor = r }) (inTurn (addBlock p f) (inOrder counts) (record { books = b; cursor = cursorOf p b f })) = rw ec at ex in
-      ey ∙ ap (λ (g : Growth). putLength p (g .books) f long date) e
+      ey ∙ ap (λ (g : Growth). putChange p (g .books) f long date) e

@@ -1,4 +1,4 @@
--- R8 for a file whose tables stay, and whose sectors lie in zones of the types they had. Assumes nothing.
+-- R8 for a file whose tables stay, and whose sectors lie in zones of the types they had.
 use mathlib.Core.Path.{_≡_, sym, ap, _∙_}
 use mathlib.Core.List.{List}
 use Prim.Native.Nat.{ℕ}

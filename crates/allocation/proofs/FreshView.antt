@@ -1,5 +1,5 @@
 -- New files on books that hold none, followed on a view that computes. Of the books only zones, sectors and the free chain are asked for; the
--- view has the books' own index tables. Assumes nothing.
+-- view has the books' own index tables.
 use mathlib.Core.Path.{_≡_, refl, sym, ap, _∙_}
 use mathlib.Core.Bool.{cond}
 use mathlib.Core.Logic.{inl, ⊎-elim}
@@ -25,23 +25,24 @@ use Rattle.tables.specs.Views.{View, viewOf}
 use Rattle.tables.specs.Zones.{zoneAt}
 use Rattle.tables.specs.Rules.R2.{Reads, Untyped, ZoneLaw, R2}
 use Rattle.tables.specs.Rules.R3.{R3}
-use Rattle.tables.specs.Rules.R8.{systemBit, directoryBit}
+use Rattle.tables.specs.Indexes.{systemBit, directoryBit}
 use Rattle.tables.specs.Rules.R9.{freeOne}
 use Rattle.tables.proofs.SameLaws.{ground-R2, ground-R3, same-ground, same-R4, same-tally}
 use Rattle.tables.proofs.FrameLaws.{sector1-same}
 use Rattle.tables.proofs.FormatLaws.{format-length, format-lawful}
 use Rattle.tables.proofs.FormatStepLaws.{fresh-layout}
 use Rattle.allocation.specs.declared.tail.Tail.{Tail}
-use Rattle.allocation.specs.Search.{find}
+use Rattle.allocation.specs.Find.{find}
 use Rattle.allocation.specs.Choice.{inOrder, inTurn}
-use Rattle.allocation.specs.Tails.{noPointer, tablesFor}
+use Rattle.allocation.specs.NextPointer.{noPointer}
+use Rattle.allocation.specs.Plans.{tablesFor}
 use Rattle.allocation.specs.NewTables.{New}
 use Rattle.allocation.specs.Growth.{Growth, addBlock}
-use Rattle.allocation.specs.Files.{started, created}
+use Rattle.allocation.specs.MadeFiles.{started, created}
 use Rattle.allocation.specs.Stock.{Stocked}
 use Rattle.allocation.specs.Ready.{Head, Chained, Ready}
 use Rattle.allocation.specs.Steps.{Made}
-use Rattle.allocation.proofs.SearchLaws.{find-none}
+use Rattle.allocation.proofs.FindLaws.{find-none}
 use Rattle.allocation.proofs.TurnLaws.{turn-none, turn-step}
 use Rattle.allocation.proofs.OrderLaws.{order-typed, order-enough}
 use Rattle.allocation.proofs.NextGround.{ground-sym, ground-trans, enough-ground}
@@ -220,7 +221,7 @@ module _ (p : Places) (b : List ℕ) (w : View) (n : New) (counts : List ℕ) (s
 
 -- ---- formatted books
 
--- no zone but the system zones has a type: the first that has one is behind the last of them
+-- no zone but the system zones has a type: the first that has one comes after the last of them
 pub none-typed : (p : Places) (b : List ℕ) → 3 ≤ p .zones → find (λ z. ltb 0 (zoneAt p b z .ztype)) (p .zones - 2) 2 ≡ p .zones
     → (z : ℕ) → z < p .zones → 2 ≤ z → zoneAt p b z .ztype ≡ 0
 none-typed p b many e z hi lo = omega (arith, ltb-false 0 (zoneAt p b z .ztype) (find-none (λ z. ltb 0 (zoneAt p b z .ztype)) (p .zones - 2) 2 z (rw e hi) lo))

@@ -1,4 +1,4 @@
--- A file that grows: where its pointers end, how many blocks it lacks, and that the books meet the nine rules again. Assumes nothing.
+-- A file that grows: where its pointers end, how many blocks it lacks, and that the books meet the nine rules again.
 use mathlib.Core.Path.{_≡_, refl, ap, _∙_}
 use mathlib.Core.Logic.{inl, inr}
 use mathlib.Core.List.{List}
@@ -10,37 +10,36 @@ use Rattle.field.specs.Numbers.{putU32}
 use Rattle.field.specs.Kept.{Kept}
 use Rattle.field.specs.Parts.{over}
 use Rattle.field.proofs.Frames.{kept-trans, kept-wider}
-use Rattle.field.proofs.NumberLaws.{u16-kept, u32-kept, kept-putU32, u32-put-same}
-use Rattle.field.proofs.PartLaws.{kept-over, over-part, same-at}
+use Rattle.field.proofs.NumberLaws.{u16-kept, kept-putU32, u32-put-same}
+use Rattle.field.proofs.PartLaws.{over-part, same-at}
 use Rattle.tables.specs.declared.places.Places.{Places}
 use Rattle.tables.specs.Blocks.{Typed, blockOf}
 use Rattle.tables.specs.Counts.{blockBytes}
 use Rattle.tables.specs.Dates.{Date}
 use Rattle.tables.specs.Places.{Layout}
-use Rattle.tables.specs.Indexes.{tableAt, nameOf, createdOf, changedOf, lengthOf, attributeOf, Used}
+use Rattle.tables.specs.Indexes.{tablePlace, tableAt, putChanged, nameOf, createdOf, changedOf, lengthOf, attributeOf, Used}
 use Rattle.tables.specs.Views.{View, viewOf, Parent}
-use Rattle.tables.specs.Rules.R8.{fileSectors, fileType, OneType, variableBit, File}
+use Rattle.tables.specs.Rules.R8.{fileSectors, fileType, OneType, File}
+use Rattle.tables.specs.Indexes.{variableBit}
 use Rattle.tables.specs.Lawful.{Lawful}
 use Rattle.tables.proofs.BlockLaws.{block-of}
 use Rattle.tables.proofs.ChoiceLaws.{ceil-enough}
-use Rattle.tables.proofs.FrameLaws.{table-kept, sector1-same, sector1-tails}
 use Rattle.tables.proofs.IndexLaws.{length-table}
-use Rattle.allocation.specs.Last.{lastTable, usedPointers, lastPlace, cursorOf}
+use Rattle.allocation.specs.Last.{lastTable, cursorOf}
 use Rattle.allocation.specs.Held.{Held, Ends, nothing}
 use Rattle.allocation.specs.Steps.{SameCounts}
 use Rattle.allocation.specs.Choice.{inOrder, inTurn}
-use Rattle.allocation.specs.NewTables.{tablePlace}
 use Rattle.allocation.specs.Growth.{Growth, addBlock}
 use Rattle.allocation.specs.Ready.{Ready}
 use Rattle.allocation.specs.Lengthened.{sectorsIn, AllOf, Quiet, Lengthened}
-use Rattle.allocation.specs.Files.{Provided, blocksFor, putLength, grown}
-use Rattle.allocation.proofs.LastLaws.{last-table, used-le, used-before, used-not, base-low, last-shape, last-some}
+use Rattle.allocation.specs.MadeFiles.{Provided, blocksFor, putChange, grown}
+use Rattle.allocation.proofs.LastLaws.{last-table, used-le, used-before, used-not, last-shape, last-some}
 use Rattle.allocation.proofs.FileLaws.{ready-grow}
 use Rattle.allocation.proofs.MadeHeld.{lawful-held}
-use Rattle.allocation.proofs.HeldLawful.{held-rules, quiet-R1, calm-quiet, quiet-trans, ends-used, in-one, file-typed, some-sectors, Fields, table-fields, fields-front, fields-file}
+use Rattle.allocation.proofs.HeldLawful.{held-rules, quiet-R1, quiet-trans, ends-used, in-one, file-typed, some-sectors, Fields, table-fields, fields-front, fields-file}
 use Rattle.allocation.proofs.AddHeld.{adds-held}
-use Rattle.allocation.proofs.TableLaws.{table-put32, table-over, table-other}
-use Rattle.allocation.proofs.StepLaws.{Still, still-table}
+use Rattle.allocation.proofs.TableLaws.{table-put32, table-over}
+use Rattle.allocation.proofs.StampedLaws.{Stamped, stamped, stamped-own, table-dated}
 use Rattle.allocation.proofs.PointerBytes.{word-kept}
 use Rattle.allocation.proofs.ChangeLaws.{stay-R9}
 use Rattle.allocation.proofs.RestatedLaws.{Restated, restated-parent, restated-change, restated-used, restated-sectors, restated-held, restated-types}
@@ -55,15 +54,14 @@ module _ (p : Places) (b : List ℕ) (f : ℕ) (h : Lawful p b) (parent : Parent
   i = lastTable v f
 
   pub cursor-ends : Ends v f (cursorOf p b f)
-  unfolding cursorOf lastPlace
+  unfolding cursorOf
   cursor-ends = record {
     parent = parent;
     long = h .r5 .long f;
     chain = h .r5 .chain f parent;
     table = last-table v f (h .r5 .long f) parent (h .r5 .chain f parent);
-    slot = usedPointers i (v .table i);
+    capacity = refl;
     within = used-le i (v .table i);
-    place = omega (arith, base-low i (v .table i));
     used = used-before i (v .table i);
     unused = used-not i (v .table i) (last-shape v f (h .r5) (h .r6) parent .first);
     pointer = λ l. refl;
@@ -117,11 +115,10 @@ module _ (p : Places) (b : List ℕ) (f long : ℕ) (date : List ℕ) (lay : Lay
   sized : length (tableAt p b f) ≡ 128
   sized = length-table p b f lay lo hi
 
-  date-kept : Kept (tableAt p b f) (over (tableAt p b f) 34 date) 34 6
-  date-kept = rw six at (kept-over (tableAt p b f) 34 date (omega (arith, sized)))
-
   new-kept : Kept (tableAt p b f) new 34 10
-  new-kept = kept-trans (kept-wider date-kept (omega arith) (omega arith)) (kept-wider (kept-putU32 (over (tableAt p b f) 34 date) 40 long) (omega arith) (omega arith))
+  new-kept =
+      kept-trans (kept-wider (table-dated p b f date lay lo hi six) (omega arith) (omega arith))
+      (kept-wider (kept-putU32 (over (tableAt p b f) 34 date) 40 long) (omega arith) (omega arith))
 
   new-fields : {name created changed : List ℕ} {old attribute : ℕ} → Fields (tableAt p b f) name created changed old attribute → Fields new name created date long attribute
   new-fields h = record {
@@ -130,74 +127,34 @@ module _ (p : Places) (b : List ℕ) (f long : ℕ) (date : List ℕ) (lay : Lay
     created' = λ k l. new-kept .out (28 + k) (inl (omega arith)) ∙ h .created' k l;
     changed' = λ k l. kept-putU32 (over (tableAt p b f) 34 date) 40 long .out (34 + k) (inl (omega arith))
         ∙ same-at (over (tableAt p b f) 34 date) date 34 (over-part (tableAt p b f) 34 date (omega (arith, sized))) k (omega arith);
-    long' = u32-put-same (over (tableAt p b f) 34 date) 40 long (omega (arith, date-kept .len, sized));
+    long' = u32-put-same (over (tableAt p b f) 34 date) 40 long (omega (arith, table-dated p b f date lay lo hi six .len, sized));
     attribute' = u16-kept 44 new-kept (inr (omega arith)) ∙ h .attribute';
   }
 
-  module _ (x y z : List ℕ) (ex : x ≡ over b (tablePlace p f + 34) date) (ey : y ≡ putU32 x (tablePlace p f + 40) long) (ez : z ≡ over y 1044 date) where
-    x-kept : Kept b x (tablePlace p f + 34) 6
-    x-kept = rw (six, ← ex) at (kept-over b (tablePlace p f + 34) date (omega arith))
+  length-new : tableAt p (putChange p b f long date) f ≡ new
+  unfolding putChange
+  length-new =
+      let x = putChanged p b f date in
+      stamped-own p b f date lay lo hi six _ 40 4 (omega arith) (kept-putU32 x (tablePlace p f + 40) long) ∙ table-put32 p x f 40 long (omega arith)
+      ∙ ap (λ (t : List ℕ). putU32 t 40 long) (table-over p b f 34 date lay lo hi (omega arith))
 
-    y-kept : Kept b y (tablePlace p f) 128
-    y-kept = kept-trans {b = x} (kept-wider x-kept (omega arith) (omega arith)) (rw ey (kept-wider (kept-putU32 x (tablePlace p f + 40) long) (omega arith) (omega arith)))
+  length-stamped : Stamped p b (putChange p b f long date) f
+  unfolding putChange
+  length-stamped = stamped p b f date lay lo hi six _ 40 4 (omega arith) (kept-putU32 (putChanged p b f date) (tablePlace p f + 40) long)
 
-    z-kept : Kept y z 1044 6
-    z-kept = rw (six, ← ez) at (kept-over y 1044 date (omega (arith, y-kept .len)))
-
-    still : Still p b y
-    still = still-table lay f lo y-kept
-
-    status : Kept y z 1024 1024
-    status = kept-wider z-kept (omega arith) (omega arith)
-
-    lay-y : Layout p (length y)
-    lay-y = rw (y-kept .len) lay
-
-    z-table : (j : ℕ) → tableAt p z j ≡ tableAt p y j
-    z-table j = table-kept p j z-kept (inr (omega arith))
-
-    z-new : tableAt p z f ≡ new
-    z-new =
-        z-table f ∙ ap (λ (w : List ℕ). tableAt p w f) ey ∙ table-put32 p x f 40 long (omega arith)
-        ∙ ap (λ (t : List ℕ). putU32 t 40 long) (ap (λ (w : List ℕ). tableAt p w f) ex ∙ table-over p b f 34 date lay lo hi (omega arith))
-
-    z-resized : Resized (viewOf p b) (viewOf p z) f
-    z-resized =
-        let g = sector1-same y z status p lay-y (u32-kept 1050 z-kept (inr (omega arith))) in
-        let k = still .calm .ground in
-        record {
-          restated = record {
-            ground = record { zones = refl; zone = λ n low high. g .zone n low high ∙ k .zone n low high; bit = λ s l. g .bit s l ∙ k .bit s l };
-            indexes = refl;
-            head = g .head ∙ still .head;
-            here = rw z-new (kept-wider new-kept (omega arith) (omega arith));
-            there = λ j low high ne. z-table j ∙ table-other p f j y-kept lo low ne;
-          };
-          attribute = rw z-new (u16-kept 44 new-kept (inr (omega arith)));
-          free = u32-kept 1036 z-kept (inl (omega arith)) ∙ still .free;
-          counts = record {
-            active = u32-kept 1028 z-kept (inl (omega arith)) ∙ still .counts .active;
-            deleted = u32-kept 1032 z-kept (inl (omega arith)) ∙ still .counts .deleted;
-            system = u16-kept 1040 z-kept (inl (omega arith)) ∙ still .counts .system;
-            directory = u16-kept 1042 z-kept (inl (omega arith)) ∙ still .counts .directory;
-            flag = u16-kept 1054 z-kept (inr (omega arith)) ∙ still .counts .flag;
-          };
-        }
-
-    z-quiet : Quiet p b z
-    z-quiet = quiet-trans (calm-quiet (still .calm)) (record { len = z-kept .len; low = λ j l. z-kept .out j (inl (omega arith)); tails = λ s t. sector1-tails y z status p lay-y t })
-
-  pub length-resized : Resized (viewOf p b) (viewOf p (putLength p b f long date)) f
-  unfolding putLength
-  length-resized = z-resized _ _ _ refl refl refl
-
-  length-quiet : Quiet p b (putLength p b f long date)
-  unfolding putLength
-  length-quiet = z-quiet _ _ _ refl refl refl
-
-  length-new : tableAt p (putLength p b f long date) f ≡ new
-  unfolding putLength
-  length-new = z-new _ _ _ refl refl refl
+  pub length-resized : Resized (viewOf p b) (viewOf p (putChange p b f long date)) f
+  length-resized = record {
+    restated = record {
+      ground = length-stamped .ground;
+      indexes = refl;
+      head = length-stamped .head;
+      here = rw length-new (kept-wider new-kept (omega arith) (omega arith));
+      there = λ j low high ne. length-stamped .other j low ne;
+    };
+    attribute = rw length-new (u16-kept 44 new-kept (inr (omega arith)));
+    free = length-stamped .free;
+    counts = length-stamped .counts;
+  }
 
 -- ---- a file that has grown
 
@@ -207,7 +164,7 @@ module _ (p : Places) (b : List ℕ) (f : ℕ) (counts : List ℕ) (long : ℕ) 
   a = g .books
 
   abbrev c : List ℕ
-  c = putLength p (g .books) f long date
+  c = putChange p (g .books) f long date
 
   lay-a : Layout p (length a)
   lay-a = rw (h .quiet .len) lay
@@ -216,7 +173,7 @@ module _ (p : Places) (b : List ℕ) (f : ℕ) (counts : List ℕ) (long : ℕ) 
   resized = length-resized p a f long date lay-a (parent .low) (parent .high) six
 
   quiet : Quiet p b c
-  quiet = quiet-trans (h .quiet) (length-quiet p a f long date lay-a (parent .low) (parent .high) six)
+  quiet = quiet-trans (h .quiet) (length-stamped p a f long date lay-a (parent .low) (parent .high) six .quiet)
 
   now-parent : Parent (viewOf p c) f
   now-parent = restated-parent (viewOf p a) (viewOf p c) f (resized .restated) (h .ends .parent)

@@ -1,5 +1,5 @@
 -- From the rules as a growing file keeps them to the nine rules: what is asked besides of the file's own parent, and what the bytes of a
--- parent say. Assumes nothing.
+-- parent say.
 use mathlib.Core.Path.{_≡_, refl, sym, ap, _∙_}
 use mathlib.Core.Logic.{_≢_, ⊎-elim}
 use mathlib.Core.List.{List, [], _∷_, _++_}
@@ -16,7 +16,7 @@ use Rattle.field.proofs.Sums.{sum-zero, sum-part}
 use Rattle.tables.specs.declared.places.Places.{Places}
 use Rattle.tables.specs.Blocks.{Typed, blockOf}
 use Rattle.tables.specs.Counts.{blockBytes, suppliedBy}
-use Rattle.tables.specs.Findings.{Each}
+use Rattle.tables.specs.Each.{Each}
 use Rattle.tables.specs.Dates.{Date}
 use Rattle.tables.specs.Names.{Name}
 use Rattle.tables.specs.Places.{placesOf}
@@ -26,15 +26,16 @@ use Rattle.tables.specs.Rules.R1.{R1}
 use Rattle.tables.specs.Rules.R4.{Own}
 use Rattle.tables.specs.Rules.R5.{R5}
 use Rattle.tables.specs.Rules.R6.{R6, Run}
-use Rattle.tables.specs.Rules.R8.{fileSectors, fileType, OneType, variableBit, directoryBit, systemBit, File, FileLaw, R8}
+use Rattle.tables.specs.Rules.R8.{fileSectors, fileType, OneType, File, FileLaw, R8}
+use Rattle.tables.specs.Indexes.{variableBit, directoryBit, systemBit}
 use Rattle.tables.specs.Lawful.{Lawful}
 use Rattle.tables.specs.Books.{Good}
 use Rattle.tables.proofs.ChainLaws.{walk-none}
-use Rattle.tables.proofs.ChildLaws.{chain-one}
-use Rattle.tables.proofs.CountLaws.{only-eq, only-ne}
+use Rattle.tables.proofs.ChainLaws.{chain-one}
+use Rattle.tables.proofs.Sector1CountLaws.{only-eq, only-ne}
 use Rattle.allocation.specs.declared.growth.Cursor.{Cursor}
 use Rattle.allocation.specs.Choice.{inOrder}
-use Rattle.allocation.specs.Files.{onlyCounts}
+use Rattle.allocation.specs.MadeFiles.{onlyCounts}
 use Rattle.allocation.specs.Held.{Held, Ends, InType, nothing}
 use Rattle.allocation.specs.Lengthened.{sectorsIn, AllOf, Quiet}
 use Rattle.allocation.proofs.FileLaws.{order-only}
@@ -147,7 +148,7 @@ module _ (v : View) (f : ℕ) (few : v .indexes ≤ 4096) (r5 : R5 v) (c : Curso
       omega (arith, o .below)
 
   -- where its last table has no pointer, it has no sector
-  no-sectors : (own : Each (Own v) 1 (v .indexes + 1)) → e .slot ≡ 0 → fileSectors v f ≡ 0
+  no-sectors : (own : Each (Own v) 1 (v .indexes + 1)) → c .tail .slot ≡ 0 → fileSectors v f ≡ 0
   unfolding fileSectors tally
   no-sectors own z = sum-zero (v .indexes) _ (λ k l. part (k + 1) (omega arith) (omega arith))
     where
@@ -180,7 +181,7 @@ module _ (v : View) (f : ℕ) (few : v .indexes ≤ 4096) (r5 : R5 v) (c : Curso
       ]
 
   pub ends-used : Each (Own v) 1 (v .indexes + 1) → 1 ≤ fileSectors v f → Used f t 0
-  ends-used own some = elim (ℕ-discrete (e .slot) 0) [
+  ends-used own some = elim (ℕ-discrete (c .tail .slot) 0) [
     | yes z ↦ absurd (omega (arith, no-sectors own z))
     | no ne ↦ elim (ℕ-discrete (e .long) 0) [
       | yes q ↦ (let here : c .table .0 ≡ f = sym (e .table) ∙ ap (λ (n : ℕ). walk (next v) f n) q ∙ walk-none (next v) f in

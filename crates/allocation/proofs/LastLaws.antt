@@ -1,4 +1,4 @@
--- The end of a file's chain and of a table's pointers: step by step as the code comes to them, and that it is the end. Assumes nothing.
+-- The end of a file's chain and of a table's pointers: step by step as the code comes to them, and that it is the end.
 use mathlib.Core.Path.{_≡_, refl, sym, ap, _∙_}
 use mathlib.Core.Logic.{_≢_}
 use mathlib.Core.Bool.{Bool, true≢false}
@@ -14,17 +14,17 @@ use Rattle.field.proofs.Sums.{sum-part, sum-zero, sum-one, sum-out}
 use Rattle.tables.specs.declared.places.Places.{Places}
 use Rattle.tables.specs.declared.index.Pointer.{Pointer}
 use Rattle.tables.specs.declared.kinds.Index.{Index}
-use Rattle.tables.specs.Indexes.{tableAt, wordOf, linkOf, slotsOf, baseOf, startOf, countOf, Used, pointerAt}
+use Rattle.tables.specs.Indexes.{tableAt, wordOf, linkOf, slotsOf, baseOf, startOf, countOf, Used, pointerAt, pointerPlace}
 use Rattle.tables.specs.Views.{View, viewOf, Begins, Parent, walk, next, onlyIf}
 use Rattle.tables.specs.Rules.R5.{R5, FileChain}
 use Rattle.tables.specs.Rules.R6.{Shape, R6}
 use Rattle.tables.proofs.ChainLaws.{walk-none, walk-once}
-use Rattle.tables.proofs.CountLaws.{only-eq, only-ne}
-use Rattle.tables.proofs.IndexLaws.{slots-in, slots-parent, slots-child, base-parent, base-child}
+use Rattle.tables.proofs.Sector1CountLaws.{only-eq, only-ne}
+use Rattle.tables.proofs.IndexLaws.{slots-parent, slots-child, base-parent, base-child}
 use Rattle.allocation.specs.declared.growth.Cursor.{Cursor}
-use Rattle.allocation.specs.Search.{find}
-use Rattle.allocation.proofs.SearchLaws.{find-end, find-high, find-here, find-next, find-passes, find-none}
-use Rattle.allocation.specs.Last.{chainEnd, lastTable, usedPointers, lastPlace, cursorOf}
+use Rattle.allocation.specs.Find.{find}
+use Rattle.allocation.proofs.FindLaws.{find-end, find-high, find-here, find-next, find-passes, find-none}
+use Rattle.allocation.specs.Last.{chainEnd, lastTable, usedPointers, cursorOf}
 
 -- ---- the last table of a file
 
@@ -211,19 +211,12 @@ module _ (i : ℕ) (t : List ℕ) where
     pub used-some : (j : ℕ) → j < slotsOf i t → Used i t j → 1 ≤ usedPointers i t
     used-some j l u = elim (ℕ-discrete (usedPointers i t) 0) [ yes z ↦ absurd (used-not j l (omega arith) u) | no ne ↦ omega arith ]
 
-  -- the pointers of a table begin behind what a child has before them
-  pub base-low : 22 ≤ baseOf i t
-  base-low = elim (ℕ-discrete (wordOf t) i) [ yes e ↦ omega (arith, base-parent i t e) | no ne ↦ omega (arith, base-child i t ne) ]
-
-  -- and end before its link, unless it is free
+  -- the pointers of a table end before its link, unless it is free
   pub slots-end : wordOf t ≢ 0 → baseOf i t + 6 * slotsOf i t ≡ 124
   slots-end nz = elim (ℕ-discrete (wordOf t) i) [
     | yes e ↦ omega (arith, base-parent i t e, slots-parent i t nz e)
     | no ne ↦ omega (arith, base-child i t ne, slots-child i t nz ne)
   ]
-
-  pub place-in : baseOf i t + 6 * usedPointers i t ≤ 124
-  place-in = omega (arith, used-le, slots-in i t)
 
 -- R5 and R6: a file's last table has a pointer
 module _ (v : View) (f : ℕ) (r5 : R5 v) (r6 : R6 v) (parent : Parent v f) where
@@ -248,8 +241,11 @@ module _ (v : View) (f : ℕ) (r5 : R5 v) (r6 : R6 v) (parent : Parent v f) wher
           used-some i (v .table i) (last-shape .first) (o .0) (o .1) (o .2)
 
 -- where a file goes on is made of what was found
-pub cursor-is : (p : Places) (b : List ℕ) (f : ℕ) (i : Index) (t : List ℕ) (at : ℕ) (q : Pointer)
-    → i .0 ≡ lastTable (viewOf p b) f → t ≡ tableAt p b (i .0) → at ≡ lastPlace (i .0) t → q ≡ pointerAt t at
-    → _≡_ {A = Cursor} (record { tail = record { last = q; at = at; tables = 0 }; table = i }) (cursorOf p b f)
+pub used-within : (i : ℕ) (t : List ℕ) (slot capacity : ℕ) → slot ≡ usedPointers i t → capacity ≡ slotsOf i t → slot ≤ capacity
+used-within i t slot capacity es ec = omega (arith, used-le i t)
+
+pub cursor-is : (p : Places) (b : List ℕ) (f : ℕ) (i : Index) (t : List ℕ) (capacity slot at : ℕ) (q : Pointer)
+    → i .0 ≡ lastTable (viewOf p b) f → t ≡ tableAt p b (i .0) → capacity ≡ slotsOf (i .0) t → slot ≡ usedPointers (i .0) t → at ≡ pointerPlace capacity slot → q ≡ pointerAt t at
+    → _≡_ {A = Cursor} (record { tail = record { last = q; slot = slot; capacity = capacity; tables = 0 }; table = i }) (cursorOf p b f)
 unfolding cursorOf
-cursor-is p b f i t at q ei et ea eq = rw (eq, ea, et, ← ei)
+cursor-is p b f i t capacity slot at q ei et ec es ea eq = rw (eq, ea, ec, es, et, ← ei)

@@ -1,4 +1,4 @@
-pub mod SearchLaws
+pub mod FindLaws
 pub mod NextBlockLaws
 pub mod TakenLaws
 pub mod NextLaws
@@ -21,6 +21,7 @@ pub mod TurnLaws
 pub mod PlanLaws
 pub mod ChainedLaws
 pub mod ReadyLaws
+pub mod GrowthLaws
 pub mod SizeLaws
 pub mod FileLaws
 pub mod ViewGrowth
@@ -29,4 +30,5 @@ pub mod AddHeld
 pub mod HeldLawful
 pub mod CreatedLawful
 pub mod RestatedLaws
+pub mod StampedLaws
 pub mod GrownLawful

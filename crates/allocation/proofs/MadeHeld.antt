@@ -1,5 +1,4 @@
 -- The free chain's head becomes the parent of a new file that has no pointer yet: the rules hold but for what a file without pointers breaks.
--- Assumes nothing.
 use mathlib.Core.Path.{_≡_, refl, sym, ap, _∙_}
 use mathlib.Core.Logic.{_≢_, inl, inr, ⊎-elim}
 use mathlib.Core.List.{List}
@@ -18,20 +17,21 @@ use Rattle.tables.specs.Rules.R4.{R4}
 use Rattle.tables.specs.Rules.R5.{FileChain, R5}
 use Rattle.tables.specs.Rules.R6.{R6}
 use Rattle.tables.specs.Rules.R7.{R7}
-use Rattle.tables.specs.Rules.R8.{fileSectors, systemBit, directoryBit, R8}
+use Rattle.tables.specs.Rules.R8.{fileSectors, R8}
+use Rattle.tables.specs.Indexes.{systemBit, directoryBit}
 use Rattle.tables.specs.Rules.R9.{freeOne, R9}
 use Rattle.tables.proofs.ChainLaws.{walk-none}
 use Rattle.tables.proofs.IndexLaws.{slots-parent, base-parent, file-parent}
-use Rattle.tables.proofs.PointerLaws.{cov-none}
-use Rattle.tables.proofs.CountLaws.{Ones, only-ne, ones-other, ones-active}
+use Rattle.tables.proofs.PointerLaws.{cov-none, over-none}
+use Rattle.tables.proofs.Sector1CountLaws.{Ones, only-ne, ones-other, ones-active}
 use Rattle.tables.proofs.SameLaws.{ground-R2, ground-R3}
 use Rattle.allocation.specs.NewTables.{New}
-use Rattle.allocation.specs.Tails.{noPointer}
+use Rattle.allocation.specs.NextPointer.{noPointer}
 use Rattle.allocation.specs.Steps.{parentBytes, Made}
-use Rattle.allocation.specs.Held.{Shapely, Held, nothing, Ends, InType}
+use Rattle.allocation.specs.Held.{ShapeBut, Held, nothing, Ends, InType}
 use Rattle.allocation.proofs.PointerBytes.{parent-word, parent-attribute, parent-zero32, parent-zero16, parent-header}
 use Rattle.allocation.proofs.ChainedLaws.{head-free}
-use Rattle.allocation.proofs.ChangeLaws.{Changed, free-file, parent-file, child-file, over-free, begins-was, file-there, parent-there, pop-R4, changed-R5, changed-R6, pointers-at, sectors-at, changed-R8, free-less, changed-R9}
+use Rattle.allocation.proofs.ChangeLaws.{Changed, free-file, parent-file, child-file, begins-was, file-there, parent-there, pop-R4, changed-R5, changed-R6, pointers-at, sectors-at, changed-R8, free-less, changed-R9}
 
 -- books that keep the rules are held, whatever file is to grow
 pub lawful-held : (v : View) (f : ℕ) → R2 v → R3 v → R4 v → R5 v → R6 v → R7 v → R8 v → R9 v → Held v f nothing
@@ -152,8 +152,8 @@ module _ (v v' : View) (n : New) (s d : ℕ) (w : Made v v' n s d) (few : v .ind
       let z = rw (w .new) at u in
       omega (arith, no-start x n (free .low) name date j, no-count x n (free .low) name date j)
 
-  shapely : Shapely v' x x t'
-  shapely = record {
+  shape-but : ShapeBut v' x x t'
+  shape-but = record {
     first = λ j l u. absurd (unused (suc j) u);
     used = λ j l u. absurd (unused j u);
     one = λ e ne. absurd (ne refl);
@@ -173,9 +173,9 @@ module _ (v v' : View) (n : New) (s d : ℕ) (w : Made v v' n s d) (few : v .ind
       r3 = ground-R3 v v' (w .ground) (h .r3);
       r4 = pop-R4 v v' x x change refl (w .head) (h .r4);
       r5 = changed-R5 v v' x x change (h .r5) 0 chain (λ c b e. absurd (no-child c b e)) (λ b. absurd (omega (arith, b .word, parent .word, b .high, w .indexes)));
-      r6 = changed-R6 v v' x x change shapely (h .r6);
+      r6 = changed-R6 v v' x x change shape-but (h .r6);
       r7 = λ m l lo. (let l' : m < 1024 * (v .zones - 1) = rw (w .ground .zones) at l in
-          omega (arith, pointers-at v v' x x change m, over-free x (v .table x) m (free .word), over m, h .r7 m l' lo, w .ground .bit m (omega arith)));
+          omega (arith, pointers-at v v' x x change m, over-none x (v .table x) m (free .word), over m, h .r7 m l' lo, w .ground .bit m (omega arith)));
       r8 = changed-R8 v v' x x change (h .r6) (h .r8);
       r9 = changed-R9 v v' x x change 0 0 (freeOne x (v .table x)) 0 0 1 0 (freeOne x t') (systemBit (n .attribute)) (directoryBit (n .attribute))
           (ones-other x (v .table x) (λ g. omega (arith, free .low, free .word))) ones
@@ -186,9 +186,8 @@ module _ (v v' : View) (n : New) (s d : ℕ) (w : Made v v' n s d) (few : v .ind
       long = 0;
       chain = chain;
       table = walk-none (next v') x;
-      slot = 0;
+      capacity = sym slots;
       within = omega arith;
-      place = omega (arith, base);
       used = λ j l. absurd (not-suc-le-zero l);
       unused = λ j l o. unused j;
       pointer = λ l. absurd (not-suc-le-zero l);
@@ -198,8 +197,8 @@ module _ (v v' : View) (n : New) (s d : ℕ) (w : Made v v' n s d) (few : v .ind
     types = λ y i j m e u. absurd (none i j m e u);
   }
     where
-      base : baseOf x t' ≡ 64
-      base = rw (w .new) (new-base x n (free .low) name date)
+      slots : slotsOf x t' ≡ 10
+      slots = rw (w .new) (new-slots x n (free .low) name date)
 
       over : (m : ℕ) → overOf x t' m ≡ 0
       over m = rw (w .new) (new-over x n (free .low) name date m)

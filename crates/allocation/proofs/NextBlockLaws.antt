@@ -1,4 +1,4 @@
--- The next block: what the tests of zones and blocks say, and that a search from the last block on finds the same. Assumes nothing.
+-- The next block: what the tests of zones and blocks say, and that a search from the last block on finds the same.
 use mathlib.Core.Path.{_≡_, refl, sym, ap, _∙_}
 use mathlib.Core.Logic.{_≢_, ⊎-elim}
 use mathlib.Core.Bool.{true, false}
@@ -7,25 +7,23 @@ use Prim.Native.Nat.{ℕ, _+_, _-_, _*_, _≤_, _<_}
 use native.Mathlib.Decide.{ℕ-discrete, decLt}
 use native.Mathlib.Nat.{div-le-self}
 use native.Mathlib.Omega.{arith}
-use lib.ListN.{length}
 use borrow.Author.Tests.{lt-ltb, le-ltb, ltb-true, eq-eqb, ne-eqb}
-use Rattle.field.specs.Runs.{Room}
 use Rattle.tables.specs.declared.kinds.Zone.{Zone}
 use Rattle.tables.specs.declared.places.Places.{Places}
 use Rattle.tables.specs.declared.zone.ZoneEntry.{ZoneEntry}
 use Rattle.tables.specs.Blocks.{Typed, blockOf, Block}
 use Rattle.tables.specs.Kinds.{firstOf}
 use Rattle.tables.specs.Open.{isOpen}
-use Rattle.tables.specs.Places.{Layout}
-use Rattle.tables.specs.Room.{perZone, spareIn}
+use Rattle.tables.specs.Room.{spareIn}
+use Rattle.tables.specs.Blocks.{perZone}
 use Rattle.tables.specs.Views.{View, viewOf}
 use Rattle.tables.proofs.BlockLaws.{block-of, block-in}
 use Rattle.tables.proofs.LackLaws.{in-open, in-other, in-begun}
 use Rattle.allocation.specs.declared.choice.Found.{Found}
-use Rattle.allocation.specs.Search.{find}
-use Rattle.allocation.specs.Choice.{begun, lowestBegun, clear, lowestClear, begunBlock, openBlock, nextBlock, sectorOf}
-use Rattle.allocation.specs.Stock.{Proper, Behind}
-use Rattle.allocation.proofs.SearchLaws.{either, find-skip, find-passes}
+use Rattle.allocation.specs.Find.{find}
+use Rattle.allocation.specs.Choice.{begun, lowestBegun, isClear, lowestClear, begunBlock, openBlock, nextBlock, blockStart}
+use Rattle.allocation.specs.Candidates.{Proper, Behind}
+use Rattle.allocation.proofs.FindLaws.{either, find-skip, find-passes}
 
 -- ---- the tests
 
@@ -44,16 +42,16 @@ module _ (v : View) (t z : ℕ) where
   begun-spare h = ltb-true 0 (spareIn t (v .zone z)) h
 
   module _ (first size : ℕ) (at : first ≡ firstOf z) (is : size ≡ blockOf t) where
-    pub clear-yes : (k r : ℕ) → r ≡ v .bit (first + k * size) → r ≡ 0 → clear v t z k ≡ true
-    unfolding clear
+    pub clear-yes : (k r : ℕ) → r ≡ v .bit (first + k * size) → r ≡ 0 → isClear v t z k ≡ true
+    unfolding isClear
     clear-yes k r q h = rw (sym at, sym is, sym q) (eq-eqb r 0 h)
 
-    pub clear-no : (k r : ℕ) → r ≡ v .bit (first + k * size) → r ≢ 0 → clear v t z k ≡ false
-    unfolding clear
+    pub clear-no : (k r : ℕ) → r ≡ v .bit (first + k * size) → r ≢ 0 → isClear v t z k ≡ false
+    unfolding isClear
     clear-no k r q h = rw (sym at, sym is, sym q) (ne-eqb r 0 h)
 
     module _ (from k : ℕ) (none : (j : ℕ) → j < k → from ≤ j → v .bit (first + j * size) ≢ 0) where
-      pub clear-none : (j : ℕ) → j < k → from ≤ j → clear v t z j ≡ false
+      pub clear-none : (j : ℕ) → j < k → from ≤ j → isClear v t z j ≡ false
       clear-none j l h = clear-no j _ refl (none j l h)
 
       pub clear-more : (r : ℕ) → r ≡ v .bit (first + k * size) → r ≢ 0 → (j : ℕ) → j < k + 1 → from ≤ j → v .bit (first + j * size) ≢ 0
@@ -89,12 +87,12 @@ module _ (p : Places) (b : List ℕ) (t : ℕ) (k : Found) (proper : Proper (vie
   pub block-small : (t < 65536) × (k .free < 65536)
   block-small = (omega arith, omega (arith, div-le-self 1024 (blockOf t)))
 
-  pub block-high : sectorOf t k + blockOf t ≤ 1024 * (p .zones - 1)
-  unfolding sectorOf
+  pub block-high : blockStart t k + blockOf t ≤ 1024 * (p .zones - 1)
+  unfolding blockStart
   block-high = omega (arith, block-within t (k .zone .0) (k .number) (proper .typed) (omega (arith, proper .low)) (proper .within), proper .high)
 
-  pub block-room : (len s size : ℕ) → Layout p (length b) → len ≡ length b → s ≡ sectorOf t k → size ≡ blockOf t → Room len (p .sectortable) s size
-  block-room len s size lay e q u = record { most = omega (arith, block-high); within = omega (arith, block-high) }
+  pub block-room : (s size : ℕ) → s ≡ blockStart t k → size ≡ blockOf t → s + size ≤ 1024 * p .zones
+  block-room s size q u = omega (arith, block-high)
 
 -- ---- the search from the last block on
 
@@ -123,19 +121,19 @@ module _ (v : View) (t : ℕ) where
           begun-is v t (z .0) (rw (sym is) at (find-passes (begun v t) (v .zones - last .zone .0) (last .zone .0) (omega (arith, is))))
 
       module _ (r : ℕ) (few : r ≤ last .number) (same : z .0 ≡ last .zone .0 → r ≡ last .number) (other : (z .0 ≡ last .zone .0 → ⊥) → r ≡ 0) where
-        behind-blocks : (j : ℕ) → j < r → 0 ≤ j → clear v t (z .0) j ≡ false
+        behind-blocks : (j : ℕ) → j < r → 0 ≤ j → isClear v t (z .0) j ≡ false
         behind-blocks j l h = elim (ℕ-discrete (z .0) (last .zone .0)) [
           | yes q ↦ rw q (behind .blocks j (omega arith))
           | no q ↦ absurd (omega (arith, other q))
         ]
 
-        behind-clear : lowestClear v t (z .0) ≡ find (clear v t (z .0)) (perZone t - r) r
+        behind-clear : lowestClear v t (z .0) ≡ find (isClear v t (z .0)) (perZone t - r) r
         unfolding lowestClear
         behind-clear =
             let e : 0 + perZone t - r ≡ perZone t - r = omega arith in
-            find-skip (clear v t (z .0)) (perZone t) 0 r (omega arith) (omega (arith, behind .number)) behind-blocks ∙ ap (λ (n : ℕ). find (clear v t (z .0)) n r) e
+            find-skip (isClear v t (z .0)) (perZone t) 0 r (omega arith) (omega (arith, behind .number)) behind-blocks ∙ ap (λ (n : ℕ). find (isClear v t (z .0)) n r) e
 
-        pub behind-block : (n : ℕ) (e : ZoneEntry) → z .0 ≤ v .zones → z .0 ≢ v .zones → n ≡ find (clear v t (z .0)) (perZone t - r) r → e ≡ v .zone (z .0)
+        pub behind-block : (n : ℕ) (e : ZoneEntry) → z .0 ≤ v .zones → z .0 ≢ v .zones → n ≡ find (isClear v t (z .0)) (perZone t - r) r → e ≡ v .zone (z .0)
             → record { zone = z; number = n; free = e .free - 1 } ≡ nextBlock v t
         unfolding begunBlock
         behind-block n e l ne q u =

@@ -1,4 +1,4 @@
--- The choice of blocks sees zone entries and sectors only: on the same ground it is the same choice. Assumes nothing.
+-- The choice of blocks sees zone entries and sectors only: on the same ground it is the same choice.
 use mathlib.Core.Path.{_≡_, sym, ap, ap₂, _∙_}
 use mathlib.Core.List.{List}
 use Prim.Native.Nat.{ℕ, _+_, _-_, _*_, _≤_, _<_}
@@ -12,17 +12,19 @@ use Rattle.tables.specs.declared.zone.ZoneEntry.{ZoneEntry}
 use Rattle.tables.specs.Kinds.{firstOf}
 use Rattle.tables.specs.Blocks.{blockOf}
 use Rattle.tables.specs.Open.{isOpen, openZones}
-use Rattle.tables.specs.Room.{perZone, spareIn, spareOf, lackOf, Enough}
+use Rattle.tables.specs.Room.{spareIn, spareOf, lackOf, Enough}
+use Rattle.tables.specs.Blocks.{perZone}
 use Rattle.tables.specs.Rules.R1.{ceil}
 use Rattle.tables.specs.Same.{Ground}
 use Rattle.tables.specs.Views.{View, cov, onlyIf}
 use Rattle.tables.proofs.BlockLaws.{block-end}
 use Rattle.tables.proofs.SameLaws.{ground-R2, ground-R3}
 use Rattle.allocation.specs.declared.choice.Found.{Found}
-use Rattle.allocation.specs.Choice.{begun, lowestBegun, lowestOpen, clear, lowestClear, begunBlock, openBlock, nextBlock, sectorOf}
-use Rattle.allocation.specs.Stock.{counted, Stocked, Behind}
+use Rattle.allocation.specs.Choice.{begun, lowestBegun, lowestOpen, isClear, lowestClear, begunBlock, openBlock, nextBlock, blockStart}
+use Rattle.allocation.specs.Stock.{howMany, Stocked}
+use Rattle.allocation.specs.Candidates.{Behind}
 use Rattle.allocation.specs.Steps.{Taken}
-use Rattle.allocation.proofs.SearchLaws.{find-same}
+use Rattle.allocation.proofs.FindLaws.{find-same}
 use Rattle.allocation.proofs.NextBlockLaws.{next-begun, next-open}
 use Rattle.allocation.proofs.NextLaws.{begun-low}
 
@@ -52,8 +54,8 @@ module _ (v v' : View) (g : Ground v v') where
   unfolding begun
   begun-ground t z lo hi = ap (λ (e : ZoneEntry). ltb 0 (spareIn t e)) (g .zone z lo hi)
 
-  clear-ground : (t z j : ℕ) → 1 ≤ z → z ≤ v .zones → j < perZone t → clear v' t z j ≡ clear v t z j
-  unfolding clear
+  clear-ground : (t z j : ℕ) → 1 ≤ z → z ≤ v .zones → j < perZone t → isClear v' t z j ≡ isClear v t z j
+  unfolding isClear
   clear-ground t z j lo hi l = ap (λ (b : ℕ). eqb b 0) (g .bit (firstOf z + j * blockOf t) (omega (arith, block-first t j l)))
 
   -- what is summed over the zones
@@ -73,7 +75,7 @@ module _ (v v' : View) (g : Ground v v') where
   begun-block : (t z : ℕ) → 1 ≤ z → z ≤ v .zones → begunBlock v' t z ≡ begunBlock v t z
   unfolding begunBlock lowestClear
   begun-block t z lo hi =
-      let n = find-same (clear v t z) (clear v' t z) (perZone t) 0 (λ j l _. clear-ground t z j lo hi (omega arith)) in
+      let n = find-same (isClear v t z) (isClear v' t z) (perZone t) 0 (λ j l _. clear-ground t z j lo hi (omega arith)) in
       ap₂ (λ (n : ℕ) (e : ZoneEntry). record { zone = record { 0 = z }; number = n; free = e .free - 1 }) n (g .zone z lo hi)
 
   pub next-ground : (t : ℕ) → nextBlock v' t ≡ nextBlock v t
@@ -102,7 +104,7 @@ module _ (v v' : View) (g : Ground v v') where
       omega (arith, h, open-ground, sum-same 6 (λ i. lackOf v (i + 3) (c (i + 3))) (λ i. lackOf v' (i + 3) (c (i + 3))) (λ i _. lack-ground (i + 3) (c (i + 3))))
 
   pub stocked-ground : (ts : List ℕ) → Stocked v ts → Stocked v' ts
-  stocked-ground ts s = record { r2 = ground-R2 v v' g (s .r2); r3 = ground-R3 v v' g (s .r3); typed = s .typed; enough = enough-ground (counted ts) (s .enough) }
+  stocked-ground ts s = record { r2 = ground-R2 v v' g (s .r2); r3 = ground-R3 v v' g (s .r3); typed = s .typed; enough = enough-ground (howMany ts) (s .enough) }
 
   pub behind-ground : (t : ℕ) (k : Found) → Behind v t k → Behind v' t k
   behind-ground t k b = record {
@@ -123,5 +125,5 @@ taken-ground v v' w w' t k g a b = record {
         | no ne ↦ b .there z lo (rw (g .zones) hi') ne ∙ g .zone z lo hi' ∙ sym (a .there z lo hi' ne)
       ]);
   bit = λ s l. (let l' : s < 1024 * v .zones = rw (a .zones) at l in
-      b .bit s (rw (g .zones) l') ∙ ap (λ (x : ℕ). x + cov (sectorOf t k) (blockOf t) s) (g .bit s l') ∙ sym (a .bit s l'));
+      b .bit s (rw (g .zones) l') ∙ ap (λ (x : ℕ). x + cov (blockStart t k) (blockOf t) s) (g .bit s l') ∙ sym (a .bit s l'));
 }

@@ -1,4 +1,4 @@
--- The next block: where there is room it is a free one, and none of its type is free before it. Assumes nothing.
+-- The next block: where there is room it is a free one, and none of its type is free before it.
 use mathlib.Core.Path.{_≡_, refl, sym, ap, _∙_}
 use mathlib.Core.Logic.{_≢_, _⊎_, inl, inr, ⊎-elim}
 use mathlib.Core.Bool.{Bool, true, false}
@@ -12,7 +12,8 @@ use Rattle.field.proofs.Sums.{sum-zero, sum-one, sum-le, sum-some, sum-part}
 use Rattle.tables.specs.Kinds.{firstOf}
 use Rattle.tables.specs.Blocks.{Typed, Block, blockOf}
 use Rattle.tables.specs.Open.{isOpen, openZones}
-use Rattle.tables.specs.Room.{perZone, spareIn, spareOf, lackOf}
+use Rattle.tables.specs.Room.{spareIn, spareOf, lackOf}
+use Rattle.tables.specs.Blocks.{perZone}
 use Rattle.tables.specs.Rules.R3.{Blocks}
 use Rattle.tables.specs.Views.{View, onlyIf}
 use Rattle.tables.proofs.BlockLaws.{block-of, block-in}
@@ -20,10 +21,11 @@ use Rattle.tables.proofs.ChoiceLaws.{ceil-enough}
 use Rattle.tables.proofs.LackLaws.{some-blocks}
 use Rattle.tables.proofs.RoomLaws.{open-clear}
 use Rattle.allocation.specs.declared.choice.Found.{Found}
-use Rattle.allocation.specs.Choice.{begun, lowestBegun, lowestOpen, clear, lowestClear, begunBlock, openBlock, nextBlock, sectorOf}
-use Rattle.allocation.specs.Stock.{counted, AllTyped, Stocked, Proper, Behind}
+use Rattle.allocation.specs.Choice.{begun, lowestBegun, lowestOpen, isClear, lowestClear, begunBlock, openBlock, nextBlock, blockStart}
+use Rattle.allocation.specs.Stock.{howMany, AllTyped, Stocked}
+use Rattle.allocation.specs.Candidates.{Proper, Behind}
 use Rattle.allocation.specs.Steps.{Choosable, Taken}
-use Rattle.allocation.proofs.SearchLaws.{find-low, find-none, find-passes, find-some}
+use Rattle.allocation.proofs.FindLaws.{find-low, find-none, find-passes, find-some}
 use Rattle.allocation.proofs.NextBlockLaws.{begun-is, next-begun, next-open}
 
 -- ---- the two ways in which a block is next
@@ -36,9 +38,9 @@ pub record OfBegun (v : View) (t : ℕ) (k : Found) : Type 0 where
   pub ztype : v .zone (k .zone .0) .ztype ≡ t
   pub free : v .zone (k .zone .0) .free ≡ suc (k .free)
   pub within : k .number < perZone t
-  pub first : v .bit (sectorOf t k) ≡ 0
+  pub first : v .bit (blockStart t k) ≡ 0
   pub zones : (z : ℕ) → z < k .zone .0 → 2 ≤ z → begun v t z ≡ false
-  pub blocks : (j : ℕ) → j < k .number → clear v t (k .zone .0) j ≡ false
+  pub blocks : (j : ℕ) → j < k .number → isClear v t (k .zone .0) j ≡ false
 
 -- no zone of its type has a free block, and it is block 0 of an open one
 pub record OfOpen (v : View) (t : ℕ) (k : Found) : Type 0 where
@@ -61,13 +63,13 @@ blocks-clear bit from size block h = record {
     first k l = h (k * size) (omega (arith, block-in k size block l, block .some))
 
 -- one more of its own type, and none of another
-pub counted-own : (t : ℕ) (ts : List ℕ) → counted (t ∷ ts) t ≡ suc (counted ts t)
-unfolding counted onlyIf
-counted-own t ts = rw (eq-eqb t t refl) (omega arith)
+pub howMany-own : (t : ℕ) (ts : List ℕ) → howMany (t ∷ ts) t ≡ suc (howMany ts t)
+unfolding howMany onlyIf
+howMany-own t ts = rw (eq-eqb t t refl) (omega arith)
 
-pub counted-other : (t u : ℕ) (ts : List ℕ) → t ≢ u → counted (t ∷ ts) u ≡ counted ts u
-unfolding counted onlyIf
-counted-other t u ts ne = rw (ne-eqb t u ne) (omega arith)
+pub howMany-other : (t u : ℕ) (ts : List ℕ) → t ≢ u → howMany (t ∷ ts) u ≡ howMany ts u
+unfolding howMany onlyIf
+howMany-other t u ts ne = rw (ne-eqb t u ne) (omega arith)
 
 -- what is free and the zones that are lacked are enough
 lack-more : (v : View) (t n : ℕ) → Typed t → n ≤ spareOf v t + perZone t * lackOf v t n
@@ -113,14 +115,14 @@ module _ (v : View) (t : ℕ) where
 
     -- its free blocks are there
     clear-some : (z : ℕ) → 2 ≤ z → z < v .zones → v .zone z .ztype ≡ t → 0 < v .zone z .free → lowestClear v t z < perZone t
-    unfolding lowestClear clear
+    unfolding lowestClear isClear
     clear-some z lo hi e h =
         let some = sum-some (perZone t) (λ k. 1 - v .bit (firstOf z + k * blockOf t)) (let n = begun-blocks z lo hi e .number in omega arith) in
         let first : v .bit (firstOf z + some .0 * blockOf t) ≡ 0 = omega (arith, some .2) in
-        omega (arith, find-some (clear v t z) (perZone t) 0 (some .0) (omega arith) (omega (arith, some .1)) (eq-eqb _ 0 first))
+        omega (arith, find-some (isClear v t z) (perZone t) 0 (some .0) (omega arith) (omega (arith, some .1)) (eq-eqb _ 0 first))
 
     begun-block : lowestBegun v t < v .zones → OfBegun v t (begunBlock v t (lowestBegun v t))
-    unfolding begunBlock lowestBegun begun lowestClear clear sectorOf
+    unfolding begunBlock lowestBegun begun lowestClear isClear blockStart
     begun-block h =
         let z = lowestBegun v t in
         let lo = begun-low in
@@ -133,9 +135,9 @@ module _ (v : View) (t : ℕ) where
           ztype = is .ztype;
           free = omega (arith, is .some);
           within = l;
-          first = eqb-true _ 0 (find-passes (clear v t z) (perZone t) 0 (omega arith));
+          first = eqb-true _ 0 (find-passes (isClear v t z) (perZone t) 0 (omega arith));
           zones = λ y ly loy. find-none (begun v t) (v .zones - 2) 2 y ly loy;
-          blocks = λ j lj. find-none (clear v t z) (perZone t) 0 j lj (omega arith);
+          blocks = λ j lj. find-none (isClear v t z) (perZone t) 0 j lj (omega arith);
         }
 
     -- ---- an open zone
@@ -148,11 +150,11 @@ module _ (v : View) (t : ℕ) where
     some-open h =
         let typed = next-typed in
         let e : t - 3 + 3 ≡ t = omega arith in
-        let part : lackOf v t (counted (t ∷ ts) t) ≤ openZones v = omega (arith, s .enough, rw e at (sum-part 6 (t - 3) (λ i. lackOf v (i + 3) (counted (t ∷ ts) (i + 3))) (omega arith))) in
-        elim (decLt 0 (lackOf v t (counted (t ∷ ts) t))) [
+        let part : lackOf v t (howMany (t ∷ ts) t) ≤ openZones v = omega (arith, s .enough, rw e at (sum-part 6 (t - 3) (λ i. lackOf v (i + 3) (howMany (t ∷ ts) (i + 3))) (omega arith))) in
+        elim (decLt 0 (lackOf v t (howMany (t ∷ ts) t))) [
           | yes l ↦ omega arith
-          | no l ↦ (let z : lackOf v t (counted (t ∷ ts) t) ≡ 0 = omega arith in
-              let m = rw (z, counted-own t ts, h, mul-zero) at (lack-more v t (counted (t ∷ ts) t) typed) in
+          | no l ↦ (let z : lackOf v t (howMany (t ∷ ts) t) ≡ 0 = omega arith in
+              let m = rw (z, howMany-own t ts, h, mul-zero) at (lack-more v t (howMany (t ∷ ts) t) typed) in
               absurd (omega arith))
         ]
 
@@ -179,7 +181,7 @@ module _ (v : View) (t : ℕ) where
     -- ---- either way it may be taken
 
     begun-choosable : (k : Found) → OfBegun v t k → Choosable v t k
-    unfolding sectorOf
+    unfolding blockStart
     begun-choosable k b =
         let blocks = begun-blocks (k .zone .0) (b .low) (b .high) (b .ztype) in
         record {
@@ -196,7 +198,7 @@ module _ (v : View) (t : ℕ) where
         }
 
     open-choosable : (k : Found) → OfOpen v t k → Choosable v t k
-    unfolding sectorOf
+    unfolding blockStart
     open-choosable k b =
         let size = block-of t next-typed in
         let l : k .number < perZone t = omega (arith, b .number, b .free) in
@@ -215,8 +217,8 @@ module _ (v : View) (t : ℕ) where
 -- ---- and once it is, it is where the next search may begin
 
 below-behind : (v v' : View) (t : ℕ) (k : Found) → Taken v v' t k → Proper v t k
-    → ((z : ℕ) → z < k .zone .0 → 2 ≤ z → begun v t z ≡ false) → ((j : ℕ) → j < k .number → clear v t (k .zone .0) j ≡ false) → Behind v' t k
-unfolding begun clear
+    → ((z : ℕ) → z < k .zone .0 → 2 ≤ z → begun v t z ≡ false) → ((j : ℕ) → j < k .number → isClear v t (k .zone .0) j ≡ false) → Behind v' t k
+unfolding begun isClear
 below-behind v v' t k taken p zones blocks = record {
   low = p .low;
   high = rw (taken .zones) (let h = p .high in omega arith);

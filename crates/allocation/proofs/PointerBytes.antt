@@ -1,4 +1,4 @@
--- The bytes of one index table: what is read of it where a pointer, a link or nothing but its head has been written. Assumes nothing.
+-- The bytes of one index table: what is read of it where a pointer, a link or nothing but its head has been written.
 use mathlib.Core.Path.{_≡_, refl, sym, _∙_}
 use mathlib.Core.Logic.{_≢_, inl, inr, ⊎-elim}
 use mathlib.Core.List.{List}
@@ -14,10 +14,9 @@ use Rattle.field.proofs.NumberLaws.{u16-kept, u32-kept, kept-putU16, kept-putU3
 use Rattle.field.proofs.PartLaws.{kept-over, over-part, same-at}
 use Rattle.tables.specs.declared.index.Pointer.{Pointer}
 use Rattle.tables.specs.Indexes.{wordOf, parentOf, lengthOf, attributeOf, minus, slotsOf, baseOf, startOf, countOf, fileOf, pointerAt}
-use Rattle.tables.proofs.IndexLaws.{slots-in}
+use Rattle.tables.proofs.IndexLaws.{slots-in, base-low}
 use Rattle.allocation.specs.NewTables.{New}
 use Rattle.allocation.specs.Steps.{withPointer, childBytes, parentBytes}
-use Rattle.allocation.proofs.LastLaws.{base-low}
 
 -- ---- a table of which a part is written: what its number, its kind and its pointers read
 

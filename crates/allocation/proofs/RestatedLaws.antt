@@ -1,5 +1,5 @@
 -- A file's parent of which bytes 34 to 45, the change date, the byte length and the attribute, may be others: the file's pointers stay, and
--- the rules but R9, which is asked for. Assumes nothing.
+-- the rules but R9, which is asked for.
 use mathlib.Core.Path.{_≡_, refl, sym, ap, ap₂, _∙_}
 use mathlib.Core.Logic.{_≢_, inl, inr}
 use mathlib.Core.List.{List}
@@ -17,10 +17,10 @@ use Rattle.tables.specs.Views.{View, Parent, Child, walk, next, cov, overOf, Un
 use Rattle.tables.specs.Rules.R5.{Stands}
 use Rattle.tables.specs.Rules.R8.{fileSectors}
 use Rattle.tables.specs.Rules.R9.{R9}
-use Rattle.tables.proofs.CountLaws.{only-eq}
+use Rattle.tables.proofs.Sector1CountLaws.{only-eq}
 use Rattle.tables.proofs.SameLaws.{ground-R2, ground-R3}
 use Rattle.tables.proofs.IndexLaws.{base-parent}
-use Rattle.allocation.specs.Held.{Shapely, Held, InType, nothing}
+use Rattle.allocation.specs.Held.{ShapeBut, Held, InType, nothing}
 use Rattle.allocation.proofs.PointerBytes.{word-kept, parent-kept, slots-kept, file-kept, start-kept, count-kept}
 use Rattle.allocation.proofs.ChangeLaws.{Changed, Stays, stays-same, member-begins, parent-file, ground-run, walk-stays, chain-stays, parent-there, begins-was, stay-R4, changed-R5, changed-R6, pointers-at, sectors-at, under-zone, changed-types, changed-R8}
 
@@ -110,7 +110,7 @@ module _ (v v' : View) (f : ℕ) (w : Restated v v' f) (few : v .indexes ≤ 409
           here = walk-stays v v' (w .indexes) f (h .r5 .long f) (h .r5 .chain f parent) stays (suc (o .place)) (omega (arith, o .below)) ∙ o .here;
         }
 
-    own-shape : Shapely v' f f t'
+    own-shape : ShapeBut v' f f t'
     own-shape =
         let s = h .r6 f (omega (arith, parent .high)) (parent .low) in
         record {

@@ -1,4 +1,4 @@
--- A file's sectors, summed table by table, and the blocks that it lacks for a length. Assumes nothing.
+-- A file's sectors, summed table by table, and the blocks that it lacks for a length.
 use mathlib.Core.Path.{_≡_, refl, sym, ap, ap₂, _∙_}
 use mathlib.Core.List.{List}
 use Prim.Native.Nat.{ℕ, _+_, _-_, _*_, _/_, _≤_, _<_}
@@ -16,9 +16,9 @@ use Rattle.tables.specs.Rules.R6.{Run, R6}
 use Rattle.tables.specs.Rules.R8.{fileSectors, fileType}
 use Rattle.tables.proofs.BlockLaws.{block-of}
 use Rattle.tables.proofs.ChoiceLaws.{ceil-least}
-use Rattle.tables.proofs.CountLaws.{only-eq, only-ne}
+use Rattle.tables.proofs.Sector1CountLaws.{only-eq, only-ne}
 use Rattle.tables.proofs.CountsLaws.{bytes-at}
-use Rattle.allocation.specs.Files.{ownSectors, blocksFor}
+use Rattle.allocation.specs.MadeFiles.{ownSectors, blocksFor}
 use Rattle.allocation.proofs.ChangeLaws.{parent-slots}
 
 -- ---- of one table

@@ -1,4 +1,4 @@
--- The steps of a growing file on its index tables, as changes of the view: from the bytes that their writers leave. Assumes nothing.
+-- The steps of a growing file on its index tables, as changes of the view: from the bytes that their writers leave.
 use mathlib.Core.Path.{_≡_, refl, sym, ap, _∙_}
 use mathlib.Core.Logic.{inl, inr, ⊎-elim, _≢_}
 use mathlib.Core.List.{List}
@@ -17,13 +17,13 @@ use Rattle.tables.specs.declared.places.Places.{Places}
 use Rattle.tables.specs.declared.index.Pointer.{Pointer}
 use Rattle.tables.specs.Places.{Layout}
 use Rattle.tables.specs.Sector1.{firstFreeOf, freeOf, activeOf, deletedOf, systemOf, directoryOf, flagOf}
-use Rattle.tables.specs.Indexes.{tableAt, linkOf, minus}
+use Rattle.tables.specs.Indexes.{tablePlace, putPointer, tableAt, linkOf, minus}
 use Rattle.tables.specs.Same.{Ground}
 use Rattle.tables.specs.Views.{View, viewOf}
 use Rattle.tables.specs.Rules.R1.{Stand, Tails}
 use Rattle.tables.proofs.FrameLaws.{table-kept}
 use Rattle.tables.proofs.ZoneEntryLaws.{zone-kept}
-use Rattle.allocation.specs.NewTables.{tablePlace, takeTable, putChild, putPointer, New, putName, putDates, putSize, putParent, countFile}
+use Rattle.allocation.specs.NewTables.{takeTable, putChild, New, putNamed, putDates, putSize, putNewParent, countFile}
 use Rattle.allocation.specs.Ready.{Head}
 use Rattle.allocation.specs.Steps.{SameCounts, withPointer, childBytes, parentBytes, Written, Extended, Made}
 use Rattle.allocation.proofs.TableLaws.{table-put16, table-put32, table-over, table-other, counts-past}
@@ -70,7 +70,7 @@ still-trans f g = record {
 }
 
 module _ {p : Places} {len : ℕ} (lay : Layout p len) {b b' : List ℕ} where
-  -- a write into sector 1 behind N
+  -- a write into sector 1 after N
   calm-status : Kept b b' 1028 1020 → Calm p b b'
   calm-status k = record {
     len = k .len;
@@ -279,15 +279,15 @@ child-extended p b f last q lay head lo hi ne = extended p b f last lay head lo 
 -- ---- a parent
 
 module _ (p : Places) (c : List ℕ) (i : ℕ) (lay : Layout p (length c)) (lo : 1 ≤ i) (hi : i ≤ p .indexes) where
-  kept-name : (name : List ℕ) → length name ≤ 24 → Kept c (putName p c i name) (tablePlace p i) 128
-  unfolding putName
+  kept-name : (name : List ℕ) → length name ≤ 24 → Kept c (putNamed p c i name) (tablePlace p i) 128
+  unfolding putNamed
   kept-name name h =
       let k = kept-putU32 c (tablePlace p i) i in
       kept-trans (kept-wider k (omega arith) (omega arith))
       (kept-wider (kept-over (putU32 c (tablePlace p i) i) (tablePlace p i + 4) name (omega (arith, k .len))) (omega arith) (omega arith))
 
-  table-name : (name : List ℕ) → length name ≤ 24 → tableAt p (putName p c i name) i ≡ over (putU32 (tableAt p c i) 0 i) 4 name
-  unfolding putName
+  table-name : (name : List ℕ) → length name ≤ 24 → tableAt p (putNamed p c i name) i ≡ over (putU32 (tableAt p c i) 0 i) 4 name
+  unfolding putNamed
   table-name name h =
       table-over p (putU32 c (tablePlace p i) i) i 4 name (rw (kept-putU32 c (tablePlace p i) i .len) lay) lo hi (omega arith)
       ∙ ap (λ (t : List ℕ). over t 4 name) (ap (λ (o : ℕ). tableAt p (putU32 c o i) i) (sym (add-zero (tablePlace p i))) ∙ table-put32 p c i 0 i (omega arith))
@@ -318,7 +318,7 @@ module _ (p : Places) (c : List ℕ) (i : ℕ) (lay : Layout p (length c)) (lo :
       ∙ ap (λ (t : List ℕ). putU16 t 44 attribute) (table-put32 p c i 40 long (omega arith))
 
 module _ (p : Places) (b : List ℕ) (n : New) (lay : Layout p (length b)) (head : Head p b) (name : length (n .name) ≤ 24) (date : length (n .date) ≡ 6) where
-  module _ (x y z : List ℕ) (ex : x ≡ putName p (takeTable p b) (firstFreeOf b) (n .name)) (ey : y ≡ putDates p x (firstFreeOf b) (n .date))
+  module _ (x y z : List ℕ) (ex : x ≡ putNamed p (takeTable p b) (firstFreeOf b) (n .name)) (ey : y ≡ putDates p x (firstFreeOf b) (n .date))
       (ez : z ≡ putSize p y (firstFreeOf b) (n .length) (n .attribute)) where
     lay₀ : Layout p (length (takeTable p b))
     lay₀ = rw (taken-popped p b lay head .calm .len) lay
@@ -346,21 +346,21 @@ module _ (p : Places) (b : List ℕ) (n : New) (lay : Layout p (length b)) (head
         ∙ ap (λ (t : List ℕ). over (over t 28 (n .date)) 34 (n .date)) (ap at ex ∙ table-name p (takeTable p b) (firstFreeOf b) lay₀ (head .low) (head .high) (n .name) name
         ∙ ap (λ (t : List ℕ). over (putU32 t 0 (firstFreeOf b)) 4 (n .name)) (taken-new p b lay head)))
 
-  parent-kept : Kept (takeTable p b) (putParent p b n) (tablePlace p (firstFreeOf b)) 128
-  unfolding putParent
+  parent-kept : Kept (takeTable p b) (putNewParent p b n) (tablePlace p (firstFreeOf b)) 128
+  unfolding putNewParent
   parent-kept = make-kept _ _ _ refl refl refl
 
-  parent-new : tableAt p (putParent p b n) (firstFreeOf b) ≡ parentBytes (firstFreeOf b) n
-  unfolding putParent
+  parent-new : tableAt p (putNewParent p b n) (firstFreeOf b) ≡ parentBytes (firstFreeOf b) n
+  unfolding putNewParent
   parent-new = make-new _ _ _ refl refl refl
 
-  pub parent-popped : Popped p b (putParent p b n)
+  pub parent-popped : Popped p b (putNewParent p b n)
   parent-popped = popped-still (taken-popped p b lay head) (still-table lay (firstFreeOf b) (head .low) parent-kept)
 
-  pub length-putParent : length (putParent p b n) ≡ length b
-  length-putParent = parent-popped .calm .len
+  pub length-putNewParent : length (putNewParent p b n) ≡ length b
+  length-putNewParent = parent-popped .calm .len
 
-  parent-there : (j : ℕ) → 1 ≤ j → j ≢ firstFreeOf b → tableAt p (putParent p b n) j ≡ tableAt p b j
+  parent-there : (j : ℕ) → 1 ≤ j → j ≢ firstFreeOf b → tableAt p (putNewParent p b n) j ≡ tableAt p b j
   parent-there j low ne = table-other p (firstFreeOf b) j parent-kept (head .low) low ne ∙ taken-there p b lay head j low ne
 
 -- ---- a file counted
@@ -423,10 +423,10 @@ module _ (p : Places) (b : List ℕ) (s d : ℕ) (date : List ℕ) (lay : Layout
   length-countFile = file-counted .calm .len
 
 pub parent-made : (p : Places) (b : List ℕ) (n : New) (s d : ℕ) → Layout p (length b) → Head p b → length (n .name) ≤ 24 → length (n .date) ≡ 6
-    → Made (viewOf p b) (viewOf p (countFile (putParent p b n) s d (n .date))) n s d
+    → Made (viewOf p b) (viewOf p (countFile (putNewParent p b n) s d (n .date))) n s d
 parent-made p b n s d lay head name date =
     let f = parent-popped p b n lay head name date in
-    let g = file-counted p (putParent p b n) s d (n .date) (rw (f .calm .len) lay) date in
+    let g = file-counted p (putNewParent p b n) s d (n .date) (rw (f .calm .len) lay) date in
     record {
       ground = calm-trans (f .calm) (g .calm) .ground;
       indexes = refl;

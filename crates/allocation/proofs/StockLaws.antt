@@ -1,4 +1,4 @@
--- A block taken keeps R2 and R3, and the next block taken leaves room for the others. Assumes nothing.
+-- A block taken keeps R2 and R3, and the next block taken leaves room for the others.
 use mathlib.Core.Path.{_≡_, refl, sym, ap, ap₂, _∙_}
 use mathlib.Core.Logic.{_≢_, inl, inr, ⊎-elim}
 use mathlib.Core.Bool.{false}
@@ -14,7 +14,8 @@ use Rattle.tables.specs.declared.zone.ZoneEntry.{ZoneEntry}
 use Rattle.tables.specs.Kinds.{firstOf}
 use Rattle.tables.specs.Blocks.{Typed, Block, blockOf}
 use Rattle.tables.specs.Open.{isOpen, openZones}
-use Rattle.tables.specs.Room.{perZone, spareIn, spareOf, lackOf, Enough}
+use Rattle.tables.specs.Room.{spareIn, spareOf, lackOf, Enough}
+use Rattle.tables.specs.Blocks.{perZone}
 use Rattle.tables.specs.Rules.R1.{ceil}
 use Rattle.tables.specs.Rules.R2.{R2}
 use Rattle.tables.specs.Rules.R3.{R3, Blocks}
@@ -26,10 +27,11 @@ use Rattle.tables.proofs.OpenLaws.{open-typed}
 use Rattle.tables.proofs.PointerLaws.{cov-in, cov-before, cov-after}
 use Rattle.tables.proofs.SameLaws.{blocks-same}
 use Rattle.allocation.specs.declared.choice.Found.{Found}
-use Rattle.allocation.specs.Choice.{nextBlock, sectorOf}
-use Rattle.allocation.specs.Stock.{counted, AllTyped, Stocked, Proper}
+use Rattle.allocation.specs.Choice.{nextBlock, blockStart}
+use Rattle.allocation.specs.Stock.{howMany, AllTyped, Stocked}
+use Rattle.allocation.specs.Candidates.{Proper}
 use Rattle.allocation.specs.Steps.{Choosable, Taken}
-use Rattle.allocation.proofs.NextLaws.{OfBegun, OfOpen, next-is, next-choosable, counted-own, counted-other, none-spare}
+use Rattle.allocation.proofs.NextLaws.{OfBegun, OfOpen, next-is, next-choosable, howMany-own, howMany-other, none-spare}
 
 -- ---- a zone's blocks, where block k of them is taken
 
@@ -73,15 +75,15 @@ module _ (bit bit' : ℕ → ℕ) (from size free k : ℕ) (block : Block size) 
 module _ (v v' : View) (t : ℕ) (k : Found) (c : Choosable v t k) (taken : Taken v v' t k) where
   -- another zone's bits stay
   bits-there : (z : ℕ) → 1 ≤ z → z ≤ v .zones → z ≢ k .zone .0 → (n : ℕ) → n < 1024 → v' .bit (firstOf z + n) ≡ v .bit (firstOf z + n)
-  unfolding sectorOf
+  unfolding blockStart
   bits-there z lo hi ne n l =
       let p = c .proper in
       let i = block-in (k .number) (blockOf t) (block-of t (p .typed)) (p .within) in
       let e = taken .bit (firstOf z + n) (omega arith) in
-      let q : cov (sectorOf t k) (blockOf t) (firstOf z + n) ≡ 0
+      let q : cov (blockStart t k) (blockOf t) (firstOf z + n) ≡ 0
       = elim (decLt z (k .zone .0)) [
-        | yes h ↦ cov-before (sectorOf t k) (blockOf t) (firstOf z + n) (omega arith)
-        | no h ↦ cov-after (sectorOf t k) (blockOf t) (firstOf z + n) (omega (arith, p .low))
+        | yes h ↦ cov-before (blockStart t k) (blockOf t) (firstOf z + n) (omega arith)
+        | no h ↦ cov-after (blockStart t k) (blockOf t) (firstOf z + n) (omega (arith, p .low))
       ] in
       omega arith
 
@@ -107,7 +109,7 @@ module _ (v v' : View) (t : ℕ) (k : Found) (c : Choosable v t k) (taken : Take
       ]
 
   pub taken-R3 : R3 v → R3 v'
-  unfolding sectorOf
+  unfolding blockStart
   taken-R3 r z l lo =
       let p = c .proper in
       let l' : z < v .zones = rw (taken .zones) at l in
@@ -166,42 +168,42 @@ module _ (v v' : View) (t : ℕ) (k : Found) (p : Proper v t k) (taken : Taken v
 
   -- where the zone had no free blocks of another type, only this type's lack changes
   module _ (ts : List ℕ) (old : (u : ℕ) → t ≢ u → spareIn u (v .zone (k .zone .0)) ≡ 0) where
-    other-lack : (u : ℕ) → t ≢ u → lackOf v' u (counted ts u) ≡ lackOf v u (counted (t ∷ ts) u)
+    other-lack : (u : ℕ) → t ≢ u → lackOf v' u (howMany ts u) ≡ lackOf v u (howMany (t ∷ ts) u)
     unfolding lackOf
     other-lack u ne =
         let e : spareOf v' u ≡ spareOf v u = omega (arith, spare-change u, old u ne, entry-other t (k .free) (p .typed) (p .free) u ne) in
-        rw (e, counted-other t u ts ne)
+        rw (e, howMany-other t u ts ne)
 
-    lack-change : sumTo 6 (λ i. lackOf v' (i + 3) (counted ts (i + 3))) + lackOf v t (counted (t ∷ ts) t)
-        ≡ sumTo 6 (λ i. lackOf v (i + 3) (counted (t ∷ ts) (i + 3))) + lackOf v' t (counted ts t)
+    lack-change : sumTo 6 (λ i. lackOf v' (i + 3) (howMany ts (i + 3))) + lackOf v t (howMany (t ∷ ts) t)
+        ≡ sumTo 6 (λ i. lackOf v (i + 3) (howMany (t ∷ ts) (i + 3))) + lackOf v' t (howMany ts t)
     lack-change =
         let typed = p .typed in
         let e : t - 3 + 3 ≡ t = omega arith in
-        rw e at (sum-at 6 (t - 3) (λ i. lackOf v' (i + 3) (counted ts (i + 3))) (λ i. lackOf v (i + 3) (counted (t ∷ ts) (i + 3))) (omega arith)
+        rw e at (sum-at 6 (t - 3) (λ i. lackOf v' (i + 3) (howMany ts (i + 3))) (λ i. lackOf v (i + 3) (howMany (t ∷ ts) (i + 3))) (omega arith)
         (λ i l ne. other-lack (i + 3) (λ q. ne (omega arith))))
 
   -- of a zone that was begun: one free block less, of which one is asked less
-  begun-enough : (ts : List ℕ) → OfBegun v t k → Enough v (counted (t ∷ ts)) → Enough v' (counted ts)
+  begun-enough : (ts : List ℕ) → OfBegun v t k → Enough v (howMany (t ∷ ts)) → Enough v' (howMany ts)
   unfolding onlyIf
   begun-enough ts b h =
       let e = v .zone (k .zone .0) in
       let own = in-begun t e (isOpen e) refl (b .closed) (b .ztype) in
       let s : spareOf v t ≡ suc (spareOf v' t) = omega (arith, spare-change t, own, b .free, entry-own t (k .free) (p .typed) (p .free)) in
-      let q : counted (t ∷ ts) t - spareOf v t ≡ counted ts t - spareOf v' t = omega (arith, counted-own t ts) in
-      let same : lackOf v' t (counted ts t) ≡ lackOf v t (counted (t ∷ ts) t) = lack-is v' t _ _ refl ∙ sym (ap (λ (n : ℕ). ceil n (perZone t)) q) ∙ sym (lack-is v t _ _ refl) in
+      let q : howMany (t ∷ ts) t - spareOf v t ≡ howMany ts t - spareOf v' t = omega (arith, howMany-own t ts) in
+      let same : lackOf v' t (howMany ts t) ≡ lackOf v t (howMany (t ∷ ts) t) = lack-is v' t _ _ refl ∙ sym (ap (λ (n : ℕ). ceil n (perZone t)) q) ∙ sym (lack-is v t _ _ refl) in
       omega (arith, h, rw (b .closed) at open-change, lack-change ts (λ u ne. sym (in-other u e (isOpen e) refl (b .closed) (λ x. ne (sym (b .ztype) ∙ x)))))
 
   -- of an open zone: one of these less, and all its blocks but the one are free
-  open-enough : (ts : List ℕ) → OfOpen v t k → Enough v (counted (t ∷ ts)) → Enough v' (counted ts)
+  open-enough : (ts : List ℕ) → OfOpen v t k → Enough v (howMany (t ∷ ts)) → Enough v' (howMany ts)
   unfolding onlyIf
   open-enough ts b h =
       let e = v .zone (k .zone .0) in
       let zero' : (u : ℕ) → spareIn u (v .zone (k .zone .0)) ≡ 0 = λ u. sym (in-open u e (isOpen e) refl (b .opened)) in
       let none = none-spare v t (b .none) in
       let s : spareOf v' t ≡ perZone t - 1 = omega (arith, b .free, spare-change t, zero' t, entry-own t (k .free) (p .typed) (p .free)) in
-      let n : counted (t ∷ ts) t - 0 ≡ suc (counted ts t) = omega (arith, counted-own t ts) in
-      let less : lackOf v' t (counted ts t) < lackOf v t (counted (t ∷ ts) t)
-      = rw (lack-is v' t (counted ts t) _ s, lack-is v t (counted (t ∷ ts) t) _ none, n) (ceil-fall (counted ts t) (perZone t) (some-blocks t (p .typed))) in
+      let n : howMany (t ∷ ts) t - 0 ≡ suc (howMany ts t) = omega (arith, howMany-own t ts) in
+      let less : lackOf v' t (howMany ts t) < lackOf v t (howMany (t ∷ ts) t)
+      = rw (lack-is v' t (howMany ts t) _ s, lack-is v t (howMany (t ∷ ts) t) _ none, n) (ceil-fall (howMany ts t) (perZone t) (some-blocks t (p .typed))) in
       omega (arith, h, rw (b .opened) at open-change, lack-change ts (λ u ne. zero' u))
 
 pub taken-stocked : (v v' : View) (t : ℕ) (ts : List ℕ) → Stocked v (t ∷ ts) → Taken v v' t (nextBlock v t) → Stocked v' ts

@@ -1,4 +1,4 @@
--- An index table after a write in it, and what a write behind sector 1 leaves of the books. Assumes nothing.
+-- An index table after a write in it, and what a write after sector 1 leaves of the books.
 use mathlib.Core.Path.{_≡_, refl, sym, ap, _∙_}
 use mathlib.Core.Logic.{inl, inr, ⊎-elim, _≢_}
 use mathlib.Core.List.{List, [], _∷_, append-assoc}
@@ -14,13 +14,13 @@ use Rattle.field.proofs.NumberLaws.{u16-kept, u32-kept}
 use Rattle.field.proofs.BitLaws.{differ}
 use Rattle.tables.specs.declared.places.Places.{Places}
 use Rattle.tables.specs.Places.{Layout}
-use Rattle.tables.specs.Indexes.{tableAt, minus}
+use Rattle.tables.specs.Indexes.{tablePlace, tableAt, minus, putWord, putParent, putLink}
 use Rattle.tables.specs.Sector1.{firstFreeOf}
 use Rattle.tables.specs.Views.{viewOf}
-use Rattle.tables.proofs.ChildLaws.{minus-is}
+use Rattle.tables.proofs.IndexLaws.{minus-is}
 use Rattle.tables.proofs.FrameLaws.{table-kept}
 use Rattle.tables.proofs.IndexLaws.{length-table}
-use Rattle.allocation.specs.NewTables.{tablePlace, takeTable, putChild}
+use Rattle.allocation.specs.NewTables.{takeTable, putChild}
 use Rattle.allocation.specs.Ready.{Head}
 use Rattle.allocation.specs.Steps.{SameCounts, SameFiles}
 
@@ -76,7 +76,7 @@ module _ (p : Places) (b : List ℕ) (i o : ℕ) where
 pub table-other : {b b' : List ℕ} (p : Places) (i j : ℕ) → Kept b b' (tablePlace p i) 128 → 1 ≤ i → 1 ≤ j → j ≢ i → tableAt p b' j ≡ tableAt p b j
 table-other p i j k lo low ne = table-kept p j k (⊎-elim (λ l. inl (omega arith)) (λ l. inr (omega arith)) (differ j i ne))
 
--- ---- what a write behind sector 1 leaves: its counts, and in front of the index tables all that is known of files
+-- ---- what a write after sector 1 leaves: its counts, and in front of the index tables all that is known of files
 
 module _ {b b' : List ℕ} {o n : ℕ} (p : Places) (k : Kept b b' o n) (past : 2048 ≤ o) where
   pub counts-past : SameCounts (viewOf p b) (viewOf p b')
@@ -99,9 +99,9 @@ module _ {b b' : List ℕ} {o n : ℕ} (p : Places) (k : Kept b b' o n) (past : 
 
 -- ---- the writes that make a child of the first free table
 
-pub child-put : (p : Places) (b x y z w : List ℕ) (r f last at at' : ℕ) → Layout p (length b) → Head p b → r ≡ firstFreeOf b → x ≡ takeTable p b → at ≡ tablePlace p r
-    → y ≡ putU32 x at (4294967295 - (r - 1)) → z ≡ putU32 y (at + 4) f → at' ≡ tablePlace p last → w ≡ putU32 z (at' + 124) r → w ≡ putChild p b f last
+pub child-put : (p : Places) (b x y z w : List ℕ) (r f last : ℕ) → Layout p (length b) → Head p b → r ≡ firstFreeOf b → x ≡ takeTable p b
+    → y ≡ putWord p x r (4294967295 - (r - 1)) → z ≡ putParent p y r f → w ≡ putLink p z last r → w ≡ putChild p b f last
 unfolding putChild
-child-put p b x y z w r f last at at' lay head er ex ea ey ez el ew =
+child-put p b x y z w r f last lay head er ex ey ez ew =
     let m : 4294967295 - (firstFreeOf b - 1) ≡ minus (firstFreeOf b) = minus-is (firstFreeOf b) (head .low) (omega (arith, head .high, lay .few)) in
-    rw (ew, ez, ey, ex, el, ea, er, m)
+    rw (ew, ez, ey, ex, er, m)

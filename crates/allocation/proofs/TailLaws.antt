@@ -1,11 +1,12 @@
--- A tail with a block behind it, by what the tests of the code find. Assumes nothing.
+-- A tail with a block after it, by what the tests of the code find.
 use mathlib.Core.Path.{_≡_, sym, _∙_}
 use mathlib.Core.Bool.{Bool, true, false}
 use Prim.Native.Nat.{ℕ, _+_, _≤_, _<_}
 use lib.Dec.{leb}
-use borrow.Author.Tests.{eq-eqb, ne-eqb, le-leb, lt-leb}
+use borrow.Author.Tests.{eq-eqb, ne-eqb, lt-ltb, le-ltb}
 use Rattle.allocation.specs.declared.tail.Tail.{Tail}
-use Rattle.allocation.specs.Tails.{joins, longer, beside, further, push}
+use Rattle.allocation.specs.declared.tail.Pushed.the-variants.{Joined, Beside, Further}
+use Rattle.allocation.specs.NextPointer.{joins, longer, beside, further, push}
 
 module _ (l : Tail) (s size : ℕ) where
   pub joins-apart : (l .last .start .0 + l .last .count ≡ s → ⊥) → false ≡ joins l s size
@@ -17,14 +18,14 @@ module _ (l : Tail) (s size : ℕ) where
   joins-next e = rw (eq-eqb (l .last .start .0 + l .last .count) s e)
 
   module _ (r : Bool) (is : r ≡ joins l s size) where
-    pub push-longer : r ≡ true → longer l size ≡ push l s size
+    pub push-joined : r ≡ true → Joined (longer l size) ≡ push l s size
     unfolding push
-    push-longer h = rw (sym is ∙ h)
+    push-joined h = rw (sym is ∙ h)
 
-    pub push-beside : r ≡ false → l .at + 12 ≤ 124 → beside l s size ≡ push l s size
+    pub push-beside : r ≡ false → l .slot < l .capacity → Beside (beside l s size) ≡ push l s size
     unfolding push
-    push-beside h room = rw (sym is ∙ h, le-leb (l .at + 12) 124 room)
+    push-beside h room = rw (sym is ∙ h, lt-ltb (l .slot) (l .capacity) room)
 
-    pub push-further : r ≡ false → 124 < l .at + 12 → further l s size ≡ push l s size
+    pub push-further : r ≡ false → l .capacity ≤ l .slot → Further (further l s size) ≡ push l s size
     unfolding push
-    push-further h full = rw (sym is ∙ h, lt-leb (l .at + 12) 124 full)
+    push-further h full = rw (sym is ∙ h, le-ltb (l .slot) (l .capacity) full)

@@ -1,5 +1,5 @@
 -- A block that is taken and not yet under a pointer leaves the rules of files: types and runs of sectors in use stay, index tables are the
--- same, and the block itself is a lawful run. Assumes nothing.
+-- same, and the block itself is a lawful run.
 use mathlib.Core.Path.{_≡_, refl, sym, ap, _∙_}
 use mathlib.Core.Logic.{_≢_, _⊎_, inl, inr, ⊎-elim}
 use mathlib.Core.List.{List}
@@ -25,9 +25,9 @@ use Rattle.tables.proofs.PointerLaws.{cov-in, cov-before, cov-after, cov-cases,
 use Rattle.tables.proofs.SameLaws.{same-begins, same-R4, same-R5, same-chain, same-tally, under-same}
 use Rattle.allocation.specs.declared.choice.Found.{Found}
 use Rattle.allocation.specs.declared.growth.Cursor.{Cursor}
-use Rattle.allocation.specs.Choice.{sectorOf}
+use Rattle.allocation.specs.Choice.{blockStart}
 use Rattle.allocation.specs.Steps.{Choosable, Taken, SameFiles}
-use Rattle.allocation.specs.Held.{Shapely, Held, Ends, InType}
+use Rattle.allocation.specs.Held.{ShapeBut, Held, Ends, InType}
 use Rattle.allocation.proofs.LastLaws.{chain-begins}
 use Rattle.allocation.proofs.FileSame.{file-same}
 use Rattle.allocation.proofs.ChangeLaws.{under-run, other-under}
@@ -82,11 +82,11 @@ module _ {v v' : View} {t : ℕ} {k : Found} (can : Choosable v t k) (took : Tak
       ]
 
   -- the block lies in its zone
-  inside : (sectorOf t k ≡ firstOf (k .zone .0) + k .number * blockOf t) × (k .number * blockOf t + blockOf t ≤ 1024)
-  unfolding sectorOf
+  inside : (blockStart t k ≡ firstOf (k .zone .0) + k .number * blockOf t) × (k .number * blockOf t + blockOf t ≤ 1024)
+  unfolding blockStart
   inside = (refl, block-in (k .number) (blockOf t) (block-of t (can .proper .typed)) (can .proper .within))
 
-  pub new-run : Run v' (sectorOf t k) (blockOf t)
+  pub new-run : Run v' (blockStart t k) (blockOf t)
   new-run =
       let p = can .proper in
       let b = block-of t (p .typed) in
@@ -102,7 +102,7 @@ module _ {v v' : View} {t : ℕ} {k : Found} (can : Choosable v t k) (took : Tak
         ];
       }
     where
-      away : (z : ℕ) → 2 ≤ z → z ≢ k .zone .0 → (x : ℕ) → x < 1024 → cov (sectorOf t k) (blockOf t) (firstOf z + x) ≡ 0
+      away : (z : ℕ) → 2 ≤ z → z ≢ k .zone .0 → (x : ℕ) → x < 1024 → cov (blockStart t k) (blockOf t) (firstOf z + x) ≡ 0
       away z lo ne x l =
           elim (decLt z (k .zone .0)) [ yes h ↦ cov-before _ _ _ (omega (arith, inside)) | no h ↦ cov-after _ _ _ (omega (arith, inside, can .proper .low)) ]
 
@@ -193,9 +193,8 @@ module _ {v v' : View} (files : SameFiles v v') where
     long = e .long;
     chain = same-chain (grounded v v') v' same f (e .long) (to v' (e .parent)) (to-chain v' (e .chain));
     table = walk-same (next v) (next v') f (e .long) (λ n l. ap linkOf (table-at n (omega arith))) (e .long) (omega arith) ∙ e .table;
-    slot = e .slot;
-    within = rw here (e .within);
-    place = rw here (e .place);
+    capacity = rw here (e .capacity);
+    within = e .within;
     used = rw here (e .used);
     unused = rw here (e .unused);
     pointer = rw here (e .pointer);
@@ -233,7 +232,7 @@ module _ {v v' : View} {t : ℕ} {k : Found} (can : Choosable v t k) (took : Tak
   taken-file p h ne = file-same v v' under-type p (other-under v f (held .r6) p h ne) (files .table p (h .low) (h .high))
       (λ i j s e u. let w = files-under files i j s u in (rw (files .table i (w .low) (w .high)) at e, w)) (files-sectors files p)
 
-  taken-shape : (i : ℕ) → 1 ≤ i → i ≤ v .indexes → Shapely v f i (v .table i) → Shapely v' f i (v .table i)
+  taken-shape : (i : ℕ) → 1 ≤ i → i ≤ v .indexes → ShapeBut v f i (v .table i) → ShapeBut v' f i (v .table i)
   taken-shape i lo hi h = record {
     first = h .first;
     used = λ j l u. run-kept v v' (took .zones) (type-or-clear can took) _ _ (h .used j l u) (λ s a b. held-set held bits i j s (record { low = lo; high = hi; slot = l; from = a; to = b }));
@@ -241,7 +240,7 @@ module _ {v v' : View} {t : ℕ} {k : Found} (can : Choosable v t k) (took : Tak
     header = h .header;
   }
 
-  pub taken-held : R2 v' → R3 v' → Held v' f (λ s. d s + cov (sectorOf t k) (blockOf t) s)
+  pub taken-held : R2 v' → R3 v' → Held v' f (λ s. d s + cov (blockStart t k) (blockOf t) s)
   taken-held r2 r3 = record {
     r2 = r2;
     r3 = r3;

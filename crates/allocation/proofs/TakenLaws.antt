@@ -1,5 +1,4 @@
 -- A block taken: what the write of its zone's entry and of its sectors' bits changes in the books and in the view, and what it leaves.
--- Assumes nothing.
 use mathlib.Core.Path.{_≡_, refl, _∙_}
 use mathlib.Core.Logic.{_⊎_, inl, inr, _≢_}
 use mathlib.Core.List.{List}
@@ -22,10 +21,10 @@ use Rattle.tables.specs.Rules.R1.{Stand, Tails}
 use Rattle.tables.proofs.PointerLaws.{cov-in, cov-before, cov-after}
 use Rattle.tables.proofs.ZoneEntryLaws.{zone-kept, kept-putZone, zone-put}
 use Rattle.allocation.specs.declared.choice.Found.{Found}
-use Rattle.allocation.specs.Choice.{sectorOf, putBlock}
-use Rattle.allocation.specs.Stock.{Proper}
+use Rattle.allocation.specs.Choice.{blockStart, putBlock}
+use Rattle.allocation.specs.Candidates.{Proper}
 use Rattle.allocation.specs.Steps.{Choosable, Taken, SameFiles}
-use Rattle.allocation.proofs.NextBlockLaws.{block-high, block-room}
+use Rattle.allocation.proofs.NextBlockLaws.{block-high}
 use Rattle.allocation.proofs.TableLaws.{files-between}
 
 module _ (p : Places) (b : List ℕ) (t : ℕ) (k : Found) where
@@ -37,9 +36,9 @@ module _ (p : Places) (b : List ℕ) (t : ℕ) (k : Found) where
   unfolding entered
   kept-entry = kept-putZone p b (k .zone .0) t (k .free) 0
 
-  kept-run : Kept entered (putBlock p b t k) (p .sectortable + sectorOf t k / 8) ((sectorOf t k % 8 + blockOf t + 7) / 8)
+  kept-run : Kept entered (putBlock p b t k) (p .sectortable + blockStart t k / 8) ((blockStart t k % 8 + blockOf t + 7) / 8)
   unfolding putBlock entered
-  kept-run = kept-setBits entered (p .sectortable) (sectorOf t k) (blockOf t) 1
+  kept-run = kept-setBits entered (p .sectortable) (blockStart t k) (blockOf t) 1
 
   pub length-putBlock : length (putBlock p b t k) ≡ length b
   length-putBlock = kept-run .len ∙ kept-entry .len
@@ -79,28 +78,28 @@ module _ (p : Places) (b : List ℕ) (t : ℕ) (k : Found) where
     bit-entered : (s : ℕ) → sectorAt p entered s ≡ sectorAt p b s
     bit-entered s = bit-kept (p .sectortable) s kept-zones (inr (omega arith))
 
-    room : Room (length entered) (p .sectortable) (sectorOf t k) (blockOf t)
-    room = block-room p b t k proper (length entered) (sectorOf t k) (blockOf t) lay (kept-entry .len) refl refl
+    room : Room (length entered) (p .sectortable) (blockStart t k) (blockOf t)
+    room = record { most = omega (arith, block-high p b t k proper); within = omega (arith, block-high p b t k proper, kept-entry .len) }
 
-    bit-out : (s : ℕ) → (s < sectorOf t k) ⊎ (sectorOf t k + blockOf t ≤ s) → sectorAt p (putBlock p b t k) s ≡ sectorAt p b s
+    bit-out : (s : ℕ) → (s < blockStart t k) ⊎ (blockStart t k + blockOf t ≤ s) → sectorAt p (putBlock p b t k) s ≡ sectorAt p b s
     unfolding putBlock entered
-    bit-out s a = set-out entered (p .sectortable) (sectorOf t k) 1 (omega arith) (blockOf t) s room a ∙ bit-entered s
+    bit-out s a = set-out entered (p .sectortable) (blockStart t k) 1 (omega arith) (blockOf t) s room a ∙ bit-entered s
 
-    bit-in : (s : ℕ) → sectorOf t k ≤ s → s < sectorOf t k + blockOf t → sectorAt p (putBlock p b t k) s ≡ 1
+    bit-in : (s : ℕ) → blockStart t k ≤ s → s < blockStart t k + blockOf t → sectorAt p (putBlock p b t k) s ≡ 1
     unfolding putBlock entered
     bit-in s l h =
-        let e : sectorOf t k + (s - sectorOf t k) ≡ s = omega arith in
-        rw e at (set-in entered (p .sectortable) (sectorOf t k) 1 (omega arith) (blockOf t) (s - sectorOf t k) room (omega arith))
+        let e : blockStart t k + (s - blockStart t k) ≡ s = omega arith in
+        rw e at (set-in entered (p .sectortable) (blockStart t k) 1 (omega arith) (blockOf t) (s - blockStart t k) room (omega arith))
 
-    bit-added : ((j : ℕ) → j < blockOf t → sectorAt p b (sectorOf t k + j) ≡ 0) → (s : ℕ) → sectorAt p (putBlock p b t k) s ≡ sectorAt p b s + cov (sectorOf t k) (blockOf t) s
-    bit-added clear s = elim (decLt s (sectorOf t k)) [
-      | yes l ↦ omega (arith, bit-out s (inl l), cov-before (sectorOf t k) (blockOf t) s l)
-      | no l ↦ elim (decLt s (sectorOf t k + blockOf t)) [
+    bit-added : ((j : ℕ) → j < blockOf t → sectorAt p b (blockStart t k + j) ≡ 0) → (s : ℕ) → sectorAt p (putBlock p b t k) s ≡ sectorAt p b s + cov (blockStart t k) (blockOf t) s
+    bit-added clear s = elim (decLt s (blockStart t k)) [
+      | yes l ↦ omega (arith, bit-out s (inl l), cov-before (blockStart t k) (blockOf t) s l)
+      | no l ↦ elim (decLt s (blockStart t k + blockOf t)) [
         | yes h ↦
-            let e : sectorOf t k + (s - sectorOf t k) ≡ s = omega arith in
-            let c = rw e at (clear (s - sectorOf t k) (omega arith)) in
-            omega (arith, bit-in s (omega arith) h, c, cov-in (sectorOf t k) (blockOf t) s (omega arith) h)
-        | no h ↦ omega (arith, bit-out s (inr (omega arith)), cov-after (sectorOf t k) (blockOf t) s (omega arith))
+            let e : blockStart t k + (s - blockStart t k) ≡ s = omega arith in
+            let c = rw e at (clear (s - blockStart t k) (omega arith)) in
+            omega (arith, bit-in s (omega arith) h, c, cov-in (blockStart t k) (blockOf t) s (omega arith) h)
+        | no h ↦ omega (arith, bit-out s (inr (omega arith)), cov-after (blockStart t k) (blockOf t) s (omega arith))
       ]
     ]
 

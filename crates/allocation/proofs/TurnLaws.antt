@@ -1,4 +1,4 @@
--- Steps in turn: a list's first step, a run of equal types, the types of the counts. Assumes nothing.
+-- Steps in turn: a list's first step, a run of equal types, the types of the counts.
 use mathlib.Core.Path.{_≡_, refl, sym, ap, _∙_}
 use mathlib.Core.List.{List, [], _∷_, _++_}
 use Prim.Native.Nat.{ℕ, zero, suc, _+_, _-_, _≤_, _<_}

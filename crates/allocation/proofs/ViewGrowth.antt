@@ -1,4 +1,4 @@
--- The growth of a file followed on views: what `addBlock` does to the books, done to functions that compute at once. Assumes nothing.
+-- The growth of a file followed on views: what `addBlock` does to the books, done to functions that compute at once.
 use mathlib.Core.Path.{_≡_, refl, sym, ap, _∙_}
 use mathlib.Core.Bool.{cond}
 use mathlib.Core.Logic.{_≢_}
@@ -14,7 +14,7 @@ use Rattle.tables.specs.declared.index.Pointer.{Pointer}
 use Rattle.tables.specs.declared.places.Places.{Places}
 use Rattle.tables.specs.declared.zone.ZoneEntry.{ZoneEntry}
 use Rattle.tables.specs.Blocks.{blockOf}
-use Rattle.tables.specs.Indexes.{wordOf, tableAt, linkOf}
+use Rattle.tables.specs.Indexes.{putPointer, wordOf, tableAt, linkOf}
 use Rattle.tables.specs.Places.{Layout}
 use Rattle.tables.specs.Same.{Same, Ground}
 use Rattle.tables.specs.Sector1.{freeOf, firstFreeOf}
@@ -22,21 +22,24 @@ use Rattle.tables.specs.Views.{View, viewOf, cov}
 use Rattle.tables.proofs.SameLaws.{same-ground}
 use Rattle.allocation.specs.declared.choice.Found.{Found}
 use Rattle.allocation.specs.declared.tail.Tail.{Tail}
+use Rattle.allocation.specs.declared.tail.Pushed.{Pushed}
+use Rattle.allocation.specs.declared.tail.Pushed.the-variants.{Joined, Beside, Further}
 use Rattle.allocation.specs.declared.growth.Cursor.{Cursor}
-use Rattle.allocation.specs.Choice.{nextBlock, sectorOf, putBlock, inTurn}
-use Rattle.allocation.specs.Tails.{push, noPointer, tablesFor}
-use Rattle.allocation.specs.NewTables.{New, putChild, putPointer}
+use Rattle.allocation.specs.Choice.{nextBlock, blockStart, putBlock, inTurn}
+use Rattle.allocation.specs.NextPointer.{push, tailOf, placeOf, noPointer}
+use Rattle.allocation.specs.Plans.{tablesFor}
+use Rattle.allocation.specs.NewTables.{New, putChild}
 use Rattle.allocation.specs.Growth.{Growth, pointed, addBlock}
 use Rattle.allocation.specs.Stock.{Stocked}
-use Rattle.allocation.specs.Ready.{Head, Ready}
+use Rattle.allocation.specs.Ready.{Head, HeadFor, Ready}
 use Rattle.allocation.specs.Steps.{Taken, SameFiles, Written, withPointer, Extended, childBytes, Made, parentBytes}
 use Rattle.allocation.proofs.TurnLaws.{turn-none, turn-step}
 use Rattle.allocation.proofs.NextGround.{next-ground, ground-trans, taken-ground}
 use Rattle.allocation.proofs.TakenLaws.{length-putBlock, block-files}
 use Rattle.allocation.proofs.StepLaws.{pointer-written, child-extended}
-use Rattle.allocation.proofs.PlanLaws.{push-at, push-new, stock-taken, stock-left, tables-step}
+use Rattle.allocation.proofs.PlanLaws.{Goes, push-goes, stock-taken, stock-left, tables-step}
 use Rattle.allocation.proofs.ChainedLaws.{chained-free}
-use Rattle.allocation.proofs.ReadyLaws.{add-is, laid-is, here-is, further-is, pointed-here, pointed-further, ready-proper, ready-laying, ready-step}
+use Rattle.allocation.proofs.ReadyLaws.{add-is, laid-is, here-is, further-is, pointed-joined, pointed-beside, pointed-further, head-taken, ready-proper, ready-laying, ready-step}
 
 -- ---- the steps
 
@@ -76,16 +79,16 @@ withTables v table head free = record {
 
 -- block k of type t is taken
 unfoldable pub takenView : View → ℕ → Found → View
-unfolding sectorOf blockOf cov
+unfolding blockStart blockOf cov
 takenView v t k =
-    withGround v (λ z. cond (eqb z (k .zone .0)) (record { ztype = t; free = k .free; third = 0 }) (v .zone z)) (λ s. v .bit s + cov (sectorOf t k) (blockOf t) s)
+    withGround v (λ z. cond (eqb z (k .zone .0)) (record { ztype = t; free = k .free; third = 0 }) (v .zone z)) (λ s. v .bit s + cov (blockStart t k) (blockOf t) s)
 
 -- table i has q for the pointer at byte `at`
 unfoldable pub writtenView : View → ℕ → ℕ → Pointer → View
 unfolding putU16 putU32
 writtenView v i at q = withTables v (λ j. cond (eqb j i) (withPointer (v .table i) at q) (v .table j)) (v .head) (v .free)
 
--- the free chain's head is a child of file f with the pointer q, behind the table `last`
+-- the free chain's head is a child of file f with the pointer q, after the table `last`
 unfoldable pub extendedView : View → ℕ → ℕ → Pointer → View
 unfolding putU16 putU32
 extendedView v f last q =
@@ -108,23 +111,22 @@ pub record Sight : Type 0 where
 -- the tail becomes l, in the present table, or in a further child of file f
 unfoldable pub sightHere : View → Cursor → Tail → Sight
 unfolding writtenView
-sightHere v c l = record { view = writtenView v (c .table .0) (l .at) (l .last); cursor = record { tail = l; table = c .table } }
+sightHere v c l = record { view = writtenView v (c .table .0) (placeOf l) (l .last); cursor = record { tail = l; table = c .table } }
 
 unfoldable pub sightFurther : ℕ → View → Cursor → Tail → Sight
 unfolding extendedView
 sightFurther f v c l = record { view = extendedView v f (c .table .0) (l .last); cursor = record { tail = l; table = record { 0 = v .head } } }
 
-unfoldable pub sightPointed : ℕ → View → Cursor → Tail → Sight
+unfoldable pub sightPointed : ℕ → View → Cursor → Pushed → Sight
 unfolding sightHere sightFurther
-sightPointed f v c l =
-    let here = sightHere v c l in
-    let there = sightFurther f v c l in
-    cond (eqb (l .tables) (c .tail .tables)) here there
+sightPointed f v c (Joined l) = sightHere v c l
+sightPointed f v c (Beside l) = sightHere v c l
+sightPointed f v c (Further l) = sightFurther f v c l
 
 -- file f with block k of type t, and with the next block of type t
 unfoldable pub laidView : ℕ → ℕ → Found → Sight → Sight
 unfolding takenView push sightPointed
-laidView f t k s = sightPointed f (takenView (s .view) t k) (s .cursor) (push (s .cursor .tail) (sectorOf t k) (blockOf t))
+laidView f t k s = sightPointed f (takenView (s .view) t k) (s .cursor) (push (s .cursor .tail) (blockStart t k) (blockOf t))
 
 unfoldable pub addView : ℕ → ℕ → Sight → Sight
 unfolding nextBlock laidView
@@ -222,7 +224,7 @@ unfolding addView
 add-sight f t s = refl
 
 laid-sight : (f t : ℕ) (k : Found) (s : Sight)
-    → laidView f t k s ≡ sightPointed f (takenView (s .view) t k) (s .cursor) (push (s .cursor .tail) (sectorOf t k) (blockOf t))
+    → laidView f t k s ≡ sightPointed f (takenView (s .view) t k) (s .cursor) (push (s .cursor .tail) (blockStart t k) (blockOf t))
 unfolding laidView
 laid-sight f t k s = refl
 
@@ -239,39 +241,44 @@ unfolding extendedView
 free-extended w f last q = refl
 
 module _ (f : ℕ) (w : View) (c : Cursor) (l : Tail) where
-  sight-here : l .tables ≡ c .tail .tables
-      → sightPointed f w c l ≡ record { view = writtenView w (c .table .0) (l .at) (l .last); cursor = record { tail = l; table = c .table } }
-  unfolding sightPointed
-  sight-here e = rw (eq-eqb (l .tables) (c .tail .tables) e)
+  abbrev here : Sight
+  here = record { view = writtenView w (c .table .0) (placeOf l) (l .last); cursor = record { tail = l; table = c .table } }
 
-  sight-further : l .tables ≢ c .tail .tables
-      → sightPointed f w c l ≡ record { view = extendedView w f (c .table .0) (l .last); cursor = record { tail = l; table = record { 0 = w .head } } }
+  sight-joined : sightPointed f w c (Joined l) ≡ here
   unfolding sightPointed
-  sight-further ne = rw (ne-eqb (l .tables) (c .tail .tables) ne)
+  sight-joined = refl
+
+  sight-beside : sightPointed f w c (Beside l) ≡ here
+  unfolding sightPointed
+  sight-beside = refl
+
+  sight-further : sightPointed f w c (Further l) ≡ record { view = extendedView w f (c .table .0) (l .last); cursor = record { tail = l; table = record { 0 = w .head } } }
+  unfolding sightPointed
+  sight-further = refl
 
 -- the pointer, once the block is taken
-module _ (p : Places) (f : ℕ) (b : List ℕ) (c : Cursor) (l : Tail) (w : View) (a : Same (viewOf p b) w) (free : w .free ≡ freeOf b) (lay : Layout p (length b))
-    (low : 1 ≤ c .table .0) (high : c .table .0 ≤ p .indexes) (at : l .at ≤ 118)
-    (new : l .tables ≢ c .tail .tables → Head p b × (l .at ≡ 22) × (c .table .0 ≢ firstFreeOf b)) where
-  shows-pointed : Shows p (pointed p f b c l) (sightPointed f w c l)
-  shows-pointed = elim (ℕ-discrete (l .tables) (c .tail .tables)) [
-    | yes e ↦
-        let q = pointer-written p b (c .table .0) (l .at) (l .last) lay low high (omega arith) in
-        rw (pointed-here p f b c l e, here-is p f b c l, sight-here f w c l e) (record {
-          same = same-written (viewOf p b) w _ a (c .table .0) (l .at) (l .last) low high q;
-          free = free-written w (c .table .0) (l .at) (l .last) ∙ free ∙ sym (q .free);
-          cursor = refl;
-        })
-    | no ne ↦
-        let h = new ne .0 in
-        let q : Extended (viewOf p b) (viewOf p (putPointer p (putChild p b f (c .table .0)) (firstFreeOf b) (l .at) (l .last))) f (c .table .0) (l .last) =
-        rw (new ne .1) (child-extended p b f (c .table .0) (l .last) lay h low high (new ne .2)) in
-        rw (pointed-further p f b c l ne, further-is p f b c l, sight-further f w c l ne) (record {
-          same = same-extended (viewOf p b) w _ a f (c .table .0) (l .last) (h .low) (h .high) low high q;
-          free = free-extended w f (c .table .0) (l .last) ∙ ap (λ (n : ℕ). n - 1) free ∙ sym (q .free);
-          cursor = ap (λ (n : ℕ). record { tail = l; table = record { 0 = n } }) (a .head);
-        })
-  ]
+module _ (p : Places) (f : ℕ) (b : List ℕ) (c : Cursor) (w : View) (a : Same (viewOf p b) w) (free : w .free ≡ freeOf b) (lay : Layout p (length b))
+    (low : 1 ≤ c .table .0) (high : c .table .0 ≤ p .indexes) (other : Head p b → c .table .0 ≢ firstFreeOf b) where
+  shows-here : (l : Tail) → Shows p (record { books = putPointer p b (c .table .0) (placeOf l) (l .last); cursor = record { tail = l; table = c .table } }) (here f w c l)
+  shows-here l =
+      let q = pointer-written p b (c .table .0) (placeOf l) (l .last) lay low high (omega arith) in
+      record {
+        same = same-written (viewOf p b) w _ a (c .table .0) (placeOf l) (l .last) low high q;
+        free = free-written w (c .table .0) (placeOf l) (l .last) ∙ free ∙ sym (q .free);
+        cursor = refl;
+      }
+
+  shows-pointed : (r : Pushed) → Goes (c .tail) r → HeadFor p b r → Shows p (pointed p f b c r) (sightPointed f w c r)
+  shows-pointed (Joined l) new h = rw (pointed-joined p f b c l, here-is p f b c l, sight-joined f w c l) (shows-here l)
+  shows-pointed (Beside l) new h = rw (pointed-beside p f b c l, here-is p f b c l, sight-beside f w c l) (shows-here l)
+  shows-pointed (Further l) new h =
+      let q : Extended (viewOf p b) (viewOf p (putPointer p (putChild p b f (c .table .0)) (firstFreeOf b) (placeOf l) (l .last))) f (c .table .0) (l .last) =
+      rw (new .0) (child-extended p b f (c .table .0) (l .last) lay h low high (other h)) in
+      rw (pointed-further p f b c l, further-is p f b c l, sight-further f w c l) (record {
+        same = same-extended (viewOf p b) w _ a f (c .table .0) (l .last) (h .low) (h .high) low high q;
+        free = free-extended w f (c .table .0) (l .last) ∙ ap (λ (n : ℕ). n - 1) free ∙ sym (q .free);
+        cursor = ap (λ (n : ℕ). record { tail = l; table = record { 0 = n } }) (a .head);
+      })
 
 -- a block of type t
 module _ (p : Places) (f : ℕ) (g : Growth) (s : Sight) (t : ℕ) (ts : List ℕ) (a : Shows p g s) (h : Ready p f g (t ∷ ts)) where
@@ -279,21 +286,17 @@ module _ (p : Places) (f : ℕ) (g : Growth) (s : Sight) (t : ℕ) (ts : List �
   shows-add =
       let b = g .books in
       let k = nextBlock (viewOf p b) t in
-      let l = push (g .cursor .tail) (sectorOf t k) (blockOf t) in
+      let r = push (g .cursor .tail) (blockStart t k) (blockOf t) in
       let e : nextBlock (s .view) t ≡ k = next-ground (viewOf p b) (s .view) (same-ground (a .same)) t in
-      let files = block-files p b t k (h .layout) (ready-proper p f g t ts h) in
-      let head : l .tables ≢ g .cursor .tail .tables → Head p b = ready-laying p f g t ts h .head in
-      let other : Head p b → g .cursor .table .0 ≢ firstFreeOf b = λ q z. h .used (ap (λ (n : ℕ). wordOf (tableAt p b n)) z ∙ chained-free p b (h .chained) (λ o. omega (arith, q .low)) .word) in
+      let proper = ready-proper p f g t ts h in
+      let files = block-files p b t k (h .layout) proper in
       rw (add-is p f t g, laid-is p f t k g, add-sight f t s, e, laid-sight f t k s, a .cursor)
-      (shows-pointed p f (putBlock p b t k) (g .cursor) l (takenView (s .view) t k)
+      (shows-pointed p f (putBlock p b t k) (g .cursor) (takenView (s .view) t k)
       (same-taken (viewOf p b) (s .view) _ (a .same) t k (stock-taken p b t ts (h .layout) (h .stocked)) files)
       (free-taken (s .view) t k ∙ a .free ∙ sym (files .free))
-      (rw (length-putBlock p b t k) (h .layout)) (h .low) (h .high) (push-at (g .cursor .tail) (sectorOf t k) (blockOf t) (h .at))
-      (λ ne. (let q = head ne in (
-        record { low = rw (files .head) (q .low); high = rw (files .head) (q .high); some = rw (files .free) (q .some) },
-        push-new (g .cursor .tail) (sectorOf t k) (blockOf t) ne .0,
-        λ z. other q (z ∙ files .head),
-      ))))
+      (rw (length-putBlock p b t k) (h .layout)) (h .low) (h .high)
+      (λ q z. h .used (ap (λ (n : ℕ). wordOf (tableAt p b n)) (z ∙ files .head) ∙ chained-free p b (h .chained) (λ o. omega (arith, q .low, files .head)) .word))
+      r (push-goes (g .cursor .tail) (blockStart t k) (blockOf t)) (head-taken p b t k (h .layout) proper r (ready-laying p f g t ts h .head)))
 
 -- blocks of these types, in turn
 pub shows-turn : (p : Places) (f : ℕ) (g : Growth) (s : Sight) (ts : List ℕ) → Shows p g s → Ready p f g ts → Shows p (inTurn (addBlock p f) ts g) (inTurn (addView f) ts s)
@@ -305,20 +308,19 @@ shows-turn p f g s (t ∷ ts) a h =
 -- ---- the tables that the blocks take
 
 -- pointers change no zone and no sector, and the tail is the one that was to be written
-module _ (f : ℕ) (w : View) (c : Cursor) (l : Tail) where
-  here-ground : Ground w (writtenView w (c .table .0) (l .at) (l .last))
+module _ (f : ℕ) (w : View) (c : Cursor) where
+  here-ground : (l : Tail) → Ground w (writtenView w (c .table .0) (placeOf l) (l .last))
   unfolding writtenView
-  here-ground = record { zones = refl; zone = λ z lo hi. refl; bit = λ s h. refl }
+  here-ground l = record { zones = refl; zone = λ z lo hi. refl; bit = λ s h. refl }
 
-  further-ground : Ground w (extendedView w f (c .table .0) (l .last))
+  further-ground : (l : Tail) → Ground w (extendedView w f (c .table .0) (l .last))
   unfolding extendedView
-  further-ground = record { zones = refl; zone = λ z lo hi. refl; bit = λ s h. refl }
+  further-ground l = record { zones = refl; zone = λ z lo hi. refl; bit = λ s h. refl }
 
-  pointed-ground : Ground w (sightPointed f w c l .view) × (sightPointed f w c l .cursor .tail ≡ l)
-  pointed-ground = elim (ℕ-discrete (l .tables) (c .tail .tables)) [
-    | yes e ↦ rw (sight-here f w c l e) (here-ground, refl)
-    | no ne ↦ rw (sight-further f w c l ne) (further-ground, refl)
-  ]
+  pointed-ground : (r : Pushed) → Ground w (sightPointed f w c r .view) × (sightPointed f w c r .cursor .tail ≡ tailOf r)
+  pointed-ground (Joined l) = rw (sight-joined f w c l) (here-ground l, refl)
+  pointed-ground (Beside l) = rw (sight-beside f w c l) (here-ground l, refl)
+  pointed-ground (Further l) = rw (sight-further f w c l) (further-ground l, refl)
 
 -- the view has the same ground as the books, and the tail is at the same place
 pub tables-shown : (p : Places) (f : ℕ) (b : List ℕ) (s : Sight) (ts : List ℕ) → Layout p (length b) → Stocked (viewOf p b) ts → Ground (viewOf p b) (s .view)
@@ -327,7 +329,7 @@ unfolding tablesFor
 tables-shown p f b s [] lay st g = rw (turn-none (addView f) s)
 tables-shown p f b s (t ∷ ts) lay st g =
     let k = nextBlock (viewOf p b) t in
-    let l = push (s .cursor .tail) (sectorOf t k) (blockOf t) in
+    let l = push (s .cursor .tail) (blockStart t k) (blockOf t) in
     let w = takenView (s .view) t k in
     let e : nextBlock (s .view) t ≡ k = next-ground (viewOf p b) (s .view) g t in
     let r = pointed-ground f w (s .cursor) l in

@@ -1,4 +1,4 @@
--- A pointer is written in a file's last table: the last one longer, or one beside it. The rules hold as before. Assumes nothing.
+-- A pointer is written in a file's last table: the last one longer, or one beside it. The rules hold as before.
 use mathlib.Core.Path.{_≡_, refl, sym, ap, ap₂, _∙_}
 use mathlib.Core.Logic.{_≢_, _⊎_, inl, inr, ⊎-elim}
 use mathlib.Core.List.{List}
@@ -12,21 +12,23 @@ use Rattle.field.proofs.Sums.{sum-at}
 use Rattle.field.proofs.NumberLaws.{u16-kept, u32-kept}
 use Rattle.tables.specs.declared.index.Pointer.{Pointer}
 use Rattle.tables.specs.Kinds.{zoneOf}
-use Rattle.tables.specs.Indexes.{wordOf, parentOf, minus, slotsOf, baseOf, startOf, countOf, Used, sectorsOf, fileOf}
+use Rattle.tables.specs.Indexes.{wordOf, parentOf, minus, slotsOf, baseOf, startOf, countOf, Used, sectorsOf, fileOf, pointerPlace}
 use Rattle.tables.specs.Views.{View, Begins, Parent, Child, walk, next, cov, overOf, Under}
 use Rattle.tables.specs.Rules.R5.{FileChain, Stands, R5}
 use Rattle.tables.specs.Rules.R6.{Run}
-use Rattle.tables.proofs.ChildLaws.{chain-one}
+use Rattle.tables.proofs.ChainLaws.{chain-one}
 use Rattle.tables.proofs.IndexLaws.{slots-in, base-parent}
 use Rattle.tables.proofs.PointerLaws.{cov-cases, cov-in, cov-none, cov-join}
-use Rattle.tables.proofs.CountLaws.{only-eq}
+use Rattle.tables.proofs.Sector1CountLaws.{only-eq}
 use Rattle.tables.proofs.SameLaws.{ground-R2, ground-R3}
 use Rattle.allocation.specs.declared.growth.Cursor.{Cursor}
+use Rattle.allocation.specs.NextPointer.{placeOf}
 use Rattle.allocation.specs.Steps.{Written}
-use Rattle.allocation.specs.Held.{Shapely, Held, Ends, InType}
-use Rattle.allocation.proofs.LastLaws.{base-low}
-use Rattle.allocation.proofs.EndsLaws.{end-begins, end-file, end-more, last-place, last-start, last-count}
-use Rattle.allocation.proofs.PointerBytes.{word-kept, parent-kept, slots-kept, file-kept, kept-pointer, pointer-read, start-others, count-others, at-slot, start-slot, count-slot}
+use Rattle.allocation.specs.Held.{ShapeBut, Held, Ends, InType}
+use Rattle.tables.proofs.IndexLaws.{base-low}
+use Rattle.allocation.proofs.LastLaws.{slots-end}
+use Rattle.allocation.proofs.EndsLaws.{end-begins, end-file, end-more, next-place, last-place, last-start, last-count}
+use Rattle.allocation.proofs.PointerBytes.{word-kept, parent-kept, slots-kept, file-kept, kept-pointer, pointer-read, start-others, count-others, start-slot, count-slot}
 use Rattle.allocation.proofs.ChangeLaws.{Changed, Longer, Stays, stays-same, member-begins, member-word, ground-zone, ground-run, walk-stays, chain-stays, stay-R4, changed-R5, changed-R6, pointers-at, sectors-at, under-zone, changed-types, changed-R8, stay-R9}
 
 -- slot j of file f's last table reads q, which lies over what it lay over before and the n sectors from a on
@@ -164,8 +166,8 @@ module _ (v v' : View) (f at : ℕ) (q : Pointer) (c : Cursor) (w : Written v v'
 
   -- ---- the rules
 
-  shapely : Shapely v f i t → Shapely v' f i t'
-  shapely o = record {
+  shape-but : ShapeBut v f i t → ShapeBut v' f i t'
+  shape-but o = record {
     first = λ l h u. elim (decLt j (suc l)) [ yes g ↦ absurd (unused-from (suc l) (rw same-slots at h) g u) | no g ↦ used-to l (omega arith) ];
     used = λ l h u. elim (ℕ-discrete l j) [
       | yes g ↦ rw (g, new-start, new-count) (ground-run v v' (w .ground) _ _ run)
@@ -176,14 +178,15 @@ module _ (v v' : View) (f at : ℕ) (q : Pointer) (c : Cursor) (w : Written v v'
         kept .out (58 + k) (inl (omega (arith, base-parent i t p))) ∙ o .header p k l);
   }
 
-  pub slot-held : (d d' : ℕ → ℕ) → ((s : ℕ) → cov a n s + d' s ≡ d s) → Held v f d → (k : ℕ) → Longer v v' f a n d' (record { tail = record { last = q; at = at; tables = k }; table = c .table })
-  slot-held d d' less h k = record {
+  pub slot-held : (d d' : ℕ → ℕ) → ((s : ℕ) → cov a n s + d' s ≡ d s) → Held v f d → (k m : ℕ) → m ≡ suc j
+      → Longer v v' f a n d' (record { tail = record { last = q; slot = m; capacity = c .tail .capacity; tables = k }; table = c .table })
+  slot-held d d' less h k m em = record {
     held = record {
       r2 = ground-R2 v v' (w .ground) (h .r2);
       r3 = ground-R3 v v' (w .ground) (h .r3);
       r4 = stay-R4 v v' f i change (w .head) (λ z. i-begins .2 (sym (i-begins .1 .word) ∙ z)) (h .r4);
       r5 = changed-R5 v v' f i change (h .r5) (e .long) chain (stands (h .r5)) (λ b. (j, rw same-slots slot, used-to j (omega arith)));
-      r6 = changed-R6 v v' f i change (shapely (h .r6 i (omega (arith, i-high)) i-low)) (h .r6);
+      r6 = changed-R6 v v' f i change (shape-but (h .r6 i (omega (arith, i-high)) i-low)) (h .r6);
       r7 = λ s l lo. (let l' : s < 1024 * (v .zones - 1) = rw (w .ground .zones) at l in
           omega (arith, pointers-at v v' f i change s, new-over s, less s, h .r7 s l' lo, w .ground .bit s (omega arith)));
       r8 = changed-R8 v v' f i change (h .r6) (h .r8);
@@ -194,12 +197,11 @@ module _ (v v' : View) (f at : ℕ) (q : Pointer) (c : Cursor) (w : Written v v'
       long = e .long;
       chain = chain;
       table = walk-here (e .long) (omega arith) ∙ e .table;
-      slot = suc j;
-      within = rw same-slots slot;
-      place = omega (arith, at-slot i at j t t' q (w .here) place);
-      used = used-to;
-      unused = λ l h g. unused-from l (rw same-slots at h) g;
-      pointer = λ g. rw (w .here) (pointer-read t at q (sized i i-low i-high) (omega (arith, fits)));
+      capacity = e .capacity ∙ sym same-slots;
+      within = omega (arith, e .capacity);
+      used = λ l g. used-to l (omega arith);
+      unused = λ l h g. unused-from l (rw same-slots at h) (omega arith);
+      pointer = λ g. rw (at-place, w .here) (pointer-read t at q (sized i i-low i-high) (omega (arith, fits)));
       none = λ g. absurd (omega arith);
     };
     sectors = omega (arith, sectors-at v v' f i change, only-eq (fileOf i t) f (sectorsOf i t) i-file, new-sectors);
@@ -207,6 +209,9 @@ module _ (v v' : View) (f at : ℕ) (q : Pointer) (c : Cursor) (w : Written v v'
     types = λ y all part. changed-types v v' f i change (h .r6) y all (λ l s u. type y all part l s u);
   }
     where
+      at-place : pointerPlace (c .tail .capacity) m ≡ at
+      at-place = omega (arith, e .capacity, slots-end i t (λ z. i-begins .2 (sym (i-begins .1 .word) ∙ z)), base-low i t)
+
       front : (o : ℕ) → o < 58 → getD (v' .table f) o 0 ≡ getD (v .table f) o 0
       front o l = elim (ℕ-discrete f i) [
         | yes g ↦ rw g (kept .out o (inl (omega (arith, base-parent i t (rw g at (e .parent .word))))))
@@ -232,34 +237,36 @@ module _ (v v' : View) (f at : ℕ) (q : Pointer) (c : Cursor) (w : Written v v'
 module _ (v v' : View) (f : ℕ) (c : Cursor) (few : v .indexes ≤ 4096) (sized : (j : ℕ) → 1 ≤ j → j ≤ v .indexes → length (v .table j) ≡ 128) (e : Ends v f c)
     (d d' : ℕ → ℕ) (h : Held v f d) (k : ℕ) where
   -- the last pointer has n sectors more
-  pub joined-held : (n : ℕ) → 1 ≤ e .slot → Written v v' (c .table .0) (c .tail .at) (record { start = c .tail .last .start; count = c .tail .last .count + n })
+  pub joined-held : (n : ℕ) → 1 ≤ c .tail .slot → Written v v' (c .table .0) (placeOf (c .tail)) (record { start = c .tail .last .start; count = c .tail .last .count + n })
       → Run v (c .tail .last .start .0) (c .tail .last .count + n) → ((s : ℕ) → cov (c .tail .last .start .0 + c .tail .last .count) n s + d' s ≡ d s)
       → Longer v v' f (c .tail .last .start .0 + c .tail .last .count) n d'
-      (record { tail = record { last = record { start = c .tail .last .start; count = c .tail .last .count + n }; at = c .tail .at; tables = k }; table = c .table })
+      (record { tail = record { last = record { start = c .tail .last .start; count = c .tail .last .count + n }; slot = c .tail .slot; capacity = c .tail .capacity; tables = k }; table = c .table })
   joined-held n some w run less =
-      slot-held v v' f (c .tail .at) (record { start = c .tail .last .start; count = c .tail .last .count + n }) c w few sized e run
-      (e .slot - 1) (c .tail .last .start .0 + c .tail .last .count) n (omega (arith, e .within)) (last-place v f c e some) (λ l g. e .used l (omega arith)) (λ l g o. e .unused l g (omega arith))
+      slot-held v v' f (placeOf (c .tail)) (record { start = c .tail .last .start; count = c .tail .last .count + n }) c w few sized e run
+      (c .tail .slot - 1) (c .tail .last .start .0 + c .tail .last .count) n (omega (arith, e .within, e .capacity)) (last-place v f c e some) (λ l g. e .used l (omega arith)) (λ l g o. e .unused l g (omega arith))
       (λ s. rw (last-start v f c e some, last-count v f c e some) (cov-join (c .tail .last .start .0) (c .tail .last .count) n s)) (rw (last-count v f c e some) refl) d d' less h k
+      (c .tail .slot) (omega arith)
 
-  -- a pointer of its own stands behind it
-  pub beside-held : (q : Pointer) → Written v v' (c .table .0) (c .tail .at + 6) q → c .tail .at + 12 ≤ 124 → Run v (q .start .0) (q .count)
+  -- a pointer of its own stands after it
+  pub beside-held : (q : Pointer) → Written v v' (c .table .0) (pointerPlace (c .tail .capacity) (c .tail .slot + 1)) q → c .tail .slot < c .tail .capacity → Run v (q .start .0) (q .count)
       → ((s : ℕ) → cov (q .start .0) (q .count) s + d' s ≡ d s)
-      → Longer v v' f (q .start .0) (q .count) d' (record { tail = record { last = q; at = c .tail .at + 6; tables = k }; table = c .table })
+      → Longer v v' f (q .start .0) (q .count) d' (record { tail = record { last = q; slot = c .tail .slot + 1; capacity = c .tail .capacity; tables = k }; table = c .table })
   beside-held q w room run less =
-      slot-held v v' f (c .tail .at + 6) q c w few sized e run (e .slot) (q .start .0) (q .count) slot (e .place) (λ l g. e .used l g) (λ l g o. e .unused l g (omega arith))
-      (λ s. rw (start, count) (omega (arith, cov-none 0 s))) (omega (arith, count)) d d' less h k
+      slot-held v v' f (pointerPlace (c .tail .capacity) (c .tail .slot + 1)) q c w few sized e run (c .tail .slot) (q .start .0) (q .count) slot (next-place v f c e room)
+      (λ l g. e .used l g) (λ l g o. e .unused l g (omega arith)) (λ s. rw (start, count) (omega (arith, cov-none 0 s))) (omega (arith, count)) d d' less h k
+      (c .tail .slot + 1) (omega arith)
     where
-      slot : e .slot < slotsOf (c .table .0) (v .table (c .table .0))
-      slot = end-more v few f c e room
+      slot : c .tail .slot < slotsOf (c .table .0) (v .table (c .table .0))
+      slot = end-more v f c e room
 
-      none : startOf (c .table .0) (v .table (c .table .0)) (e .slot) + countOf (c .table .0) (v .table (c .table .0)) (e .slot) ≡ 0
-      none = elim (ℕ-discrete (startOf (c .table .0) (v .table (c .table .0)) (e .slot) + countOf (c .table .0) (v .table (c .table .0)) (e .slot)) 0) [
+      none : startOf (c .table .0) (v .table (c .table .0)) (c .tail .slot) + countOf (c .table .0) (v .table (c .table .0)) (c .tail .slot) ≡ 0
+      none = elim (ℕ-discrete (startOf (c .table .0) (v .table (c .table .0)) (c .tail .slot) + countOf (c .table .0) (v .table (c .table .0)) (c .tail .slot)) 0) [
         | yes z ↦ z
-        | no ne ↦ absurd (e .unused (e .slot) slot (omega arith) (omega arith))
+        | no ne ↦ absurd (e .unused (c .tail .slot) slot (omega arith) (omega arith))
       ]
 
-      start : startOf (c .table .0) (v .table (c .table .0)) (e .slot) ≡ 0
+      start : startOf (c .table .0) (v .table (c .table .0)) (c .tail .slot) ≡ 0
       start = omega (arith, none)
 
-      count : countOf (c .table .0) (v .table (c .table .0)) (e .slot) ≡ 0
+      count : countOf (c .table .0) (v .table (c .table .0)) (c .tail .slot) ≡ 0
       count = omega (arith, none)

@@ -5,21 +5,22 @@ use mathlib.Core.List.{List, [], _∷_, _++_}
 use Prim.Native.Nat.{ℕ, _+_, _-_, _*_}
 use lib.Dec.{eqb, ltb}
 use lib.ListN.{length, replicate}
-use Rattle.field.specs.Runs.{setBits}
 use Rattle.tables.specs.declared.places.Places.{Places}
 use Rattle.tables.specs.Kinds.{firstOf}
-use Rattle.tables.specs.Blocks.{blockOf}
+use Rattle.tables.specs.Blocks.{typeAt, blockOf}
 use Rattle.tables.specs.Zones.{putZone}
-use Rattle.tables.specs.Views.{View, viewOf}
+use Rattle.tables.specs.Sectors.{putSectors}
+use Rattle.tables.specs.Views.{View}
 use Rattle.tables.specs.Open.{isOpen}
-use Rattle.tables.specs.Room.{perZone, spareIn}
+use Rattle.tables.specs.Room.{spareIn}
+use Rattle.tables.specs.Blocks.{perZone}
 use Rattle.allocation.specs.declared.choice.Found.{Found}
-use Rattle.allocation.specs.Search.{find}
+use Rattle.allocation.specs.Find.{find}
 
--- "type H first, C last": the types of the blocks that are counted H to C; the type of the first of k counts is k + 2
+-- "type H first, C last": the types of the blocks that are counted H to C
 unfoldable pub inOrder : List ℕ → List ℕ
 inOrder [] = []
-inOrder (n ∷ ns) = replicate n (length ns + 3) ++ inOrder ns
+inOrder (n ∷ ns) = replicate n (typeAt (length ns)) ++ inOrder ns
 
 -- "one at a time": a step for each type of the list
 unfoldable pub inTurn : {A : Type 0} → (ℕ → A → A) → List ℕ → A → A
@@ -43,13 +44,13 @@ unfolding find
 lowestOpen v = find (λ z. isOpen (v .zone z)) (v .zones - 2) 2
 
 -- block k of zone z, of type t, is free: its first sector's bit is clear, and by R3 the others' too
-unfoldable pub clear : View → ℕ → ℕ → ℕ → Bool
-clear v t z k = eqb (v .bit (firstOf z + k * blockOf t)) 0
+unfoldable pub isClear : View → ℕ → ℕ → ℕ → Bool
+isClear v t z k = eqb (v .bit (firstOf z + k * blockOf t)) 0
 
 -- the zone's lowest free block
 unfoldable pub lowestClear : View → ℕ → ℕ → ℕ
-unfolding clear find
-lowestClear v t z = find (clear v t z) (perZone t) 0
+unfolding isClear find
+lowestClear v t z = find (isClear v t z) (perZone t) 0
 
 -- a block, by its zone, its number in the zone, and the free blocks that the zone has without it
 unfoldable pub begunBlock : View → ℕ → ℕ → Found
@@ -71,10 +72,10 @@ nextBlock v t =
 -- ---- taken
 
 -- the first sector of a block of type t
-unfoldable pub sectorOf : ℕ → Found → ℕ
-sectorOf t k = firstOf (k .zone .0) + k .number * blockOf t
+unfoldable pub blockStart : ℕ → Found → ℕ
+blockStart t k = firstOf (k .zone .0) + k .number * blockOf t
 
 -- the books with it taken: its zone's entry, and its sectors in use
 unfoldable pub putBlock : Places → List ℕ → ℕ → Found → List ℕ
-unfolding sectorOf
-putBlock p b t k = setBits (putZone p b (k .zone .0) t (k .free) 0) (p .sectortable) (sectorOf t k) (blockOf t) 1
+unfolding blockStart
+putBlock p b t k = putSectors p (putZone p b (k .zone .0) t (k .free) 0) (blockStart t k) (blockOf t) 1

@@ -7,8 +7,8 @@ use Prim.Native.Nat.{ℕ, suc, _+_, _-_, _*_, _≤_, _<_}
 use lib.ListN.{getD}
 use Rattle.field.specs.Parts.{AllBytes}
 use Rattle.tables.specs.Kinds.{zoneOf}
-use Rattle.tables.specs.Findings.{Each}
-use Rattle.tables.specs.Indexes.{wordOf, slotsOf, baseOf, startOf, countOf, Used, fileOf, pointerAt}
+use Rattle.tables.specs.Each.{Each}
+use Rattle.tables.specs.Indexes.{wordOf, slotsOf, startOf, countOf, Used, fileOf, pointerAt}
 use Rattle.tables.specs.Views.{View, Parent, walk, next, pointersOver, Under}
 use Rattle.tables.specs.Rules.R2.{R2}
 use Rattle.tables.specs.Rules.R3.{R3}
@@ -18,9 +18,10 @@ use Rattle.tables.specs.Rules.R6.{Run}
 use Rattle.tables.specs.Rules.R8.{FileLaw, fileSectors}
 use Rattle.tables.specs.Rules.R9.{R9}
 use Rattle.allocation.specs.declared.growth.Cursor.{Cursor}
+use Rattle.allocation.specs.NextPointer.{placeOf}
 
 -- R6 of index i, whose bytes are t, but that parent f may have no pointer
-pub record Shapely (v : View) (f i : ℕ) (t : List ℕ) : Type 0 where
+pub record ShapeBut (v : View) (f i : ℕ) (t : List ℕ) : Type 0 where
   pub first : (j : ℕ) → suc j < slotsOf i t → Used i t (suc j) → Used i t j
   pub used : (j : ℕ) → j < slotsOf i t → Used i t j → Run v (startOf i t j) (countOf i t j)
   pub one : wordOf t ≡ i → i ≢ f → Used i t 0
@@ -32,7 +33,7 @@ pub record Held (v : View) (f : ℕ) (d : ℕ → ℕ) : Type 0 where
   pub r3 : R3 v
   pub r4 : R4 v
   pub r5 : R5 v
-  pub r6 : Each (λ i. Shapely v f i (v .table i)) 1 (v .indexes + 1)
+  pub r6 : Each (λ i. ShapeBut v f i (v .table i)) 1 (v .indexes + 1)
   pub r7 : (s : ℕ) → s < 1024 * (v .zones - 1) → 1024 ≤ s → pointersOver v s + d s ≡ v .bit s
   pub r8 : (p : ℕ) → p < v .indexes + 1 → 1 ≤ p → p ≢ f → FileLaw v p
   pub r9 : R9 v
@@ -41,20 +42,19 @@ pub record Held (v : View) (f : ℕ) (d : ℕ → ℕ) : Type 0 where
 abbrev pub nothing : ℕ → ℕ
 nothing s = 0
 
--- file f's pointers end at the cursor: in its last table `slot` pointers are used, the last of which is the tail's; a parent with none is
--- a new file's
+-- file f's pointers end at the cursor: its last table has room for as many as the tail says, and has used as many, the last of which is the
+-- tail's; a parent with none is a new file's
 pub record Ends (v : View) (f : ℕ) (c : Cursor) : Type 0 where
   pub parent : Parent v f
   pub long : ℕ
   pub chain : FileChain v f long
   pub table : walk (next v) f long ≡ c .table .0
-  pub slot : ℕ
-  pub within : slot ≤ slotsOf (c .table .0) (v .table (c .table .0))
-  pub place : c .tail .at + 6 ≡ baseOf (c .table .0) (v .table (c .table .0)) + 6 * slot
-  pub used : (j : ℕ) → j < slot → Used (c .table .0) (v .table (c .table .0)) j
-  pub unused : (j : ℕ) → j < slotsOf (c .table .0) (v .table (c .table .0)) → slot ≤ j → Used (c .table .0) (v .table (c .table .0)) j → ⊥
-  pub pointer : 1 ≤ slot → c .tail .last ≡ pointerAt (v .table (c .table .0)) (c .tail .at)
-  pub none : slot ≡ 0 → (c .tail .last .start .0 + c .tail .last .count ≡ 0) × (long ≡ 0)
+  pub capacity : c .tail .capacity ≡ slotsOf (c .table .0) (v .table (c .table .0))
+  pub within : c .tail .slot ≤ c .tail .capacity
+  pub used : (j : ℕ) → j < c .tail .slot → Used (c .table .0) (v .table (c .table .0)) j
+  pub unused : (j : ℕ) → j < slotsOf (c .table .0) (v .table (c .table .0)) → c .tail .slot ≤ j → Used (c .table .0) (v .table (c .table .0)) j → ⊥
+  pub pointer : 1 ≤ c .tail .slot → c .tail .last ≡ pointerAt (v .table (c .table .0)) (placeOf (c .tail))
+  pub none : c .tail .slot ≡ 0 → (c .tail .last .start .0 + c .tail .last .count ≡ 0) × (long ≡ 0)
 
 -- every sector of file f lies in a zone of type t
 abbrev pub InType : View → ℕ → ℕ → Type 0

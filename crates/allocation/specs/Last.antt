@@ -1,13 +1,13 @@
--- Where a file's pointers end in the books: its last table, and the last used pointer there. Grow goes on behind it.
+-- Where a file's pointers end in the books: its last table, and the last used pointer there. Grow goes on after it.
 use mathlib.Core.Bool.{cond}
 use mathlib.Core.List.{List}
-use Prim.Native.Nat.{ℕ, zero, suc, _+_, _-_, _*_}
+use Prim.Native.Nat.{ℕ, zero, suc, _+_}
 use lib.Dec.{eqb}
 use Rattle.tables.specs.declared.places.Places.{Places}
-use Rattle.tables.specs.Indexes.{tableAt, slotsOf, baseOf, startOf, countOf, pointerAt}
+use Rattle.tables.specs.Indexes.{tableAt, slotsOf, startOf, countOf, pointerAt, pointerPlace}
 use Rattle.tables.specs.Views.{View, viewOf, next}
 use Rattle.allocation.specs.declared.growth.Cursor.{Cursor}
-use Rattle.allocation.specs.Search.{find}
+use Rattle.allocation.specs.Find.{find}
 
 -- the last that links lead to from i, after n links at most: "0 ends any chain"
 unfoldable pub chainEnd : (ℕ → ℕ) → ℕ → ℕ → ℕ
@@ -24,15 +24,14 @@ unfoldable pub usedPointers : ℕ → List ℕ → ℕ
 unfolding find
 usedPointers i t = find (λ j. eqb (startOf i t j + countOf i t j) 0) (slotsOf i t) 0
 
--- the byte at which the last of them begins
-unfoldable pub lastPlace : ℕ → List ℕ → ℕ
-unfolding usedPointers
-lastPlace i t = baseOf i t + 6 * usedPointers i t - 6
-
 -- where file f goes on; it has taken no further table yet
 unfoldable pub cursorOf : Places → List ℕ → ℕ → Cursor
-unfolding lastTable lastPlace
+unfolding lastTable usedPointers
 cursorOf p b f =
     let i = lastTable (viewOf p b) f in
-    let at = lastPlace i (tableAt p b i) in
-    record { tail = record { last = pointerAt (tableAt p b i) at; at = at; tables = 0 }; table = record { 0 = i } }
+    let capacity = slotsOf i (tableAt p b i) in
+    let slot = usedPointers i (tableAt p b i) in
+    record {
+      tail = record { last = pointerAt (tableAt p b i) (pointerPlace capacity slot); slot = slot; capacity = capacity; tables = 0 };
+      table = record { 0 = i };
+    }

@@ -1,11 +1,13 @@
-pub mod Search
+pub mod Find
 pub mod Choice
-pub mod Tails
+pub mod NextPointer
 pub mod NewTables
 pub mod Growth
+pub mod Plans
 pub mod Last
-pub mod Files
+pub mod MadeFiles
 pub mod Scratch
+pub mod Candidates
 pub mod Stock
 pub mod Ready
 pub mod Steps

@@ -1,33 +1,19 @@
 -- New index tables: "Index tables come off the free chain's head, parent first." "New tables get the zeros."
-use mathlib.Core.Path.{_≡_}
 use mathlib.Core.List.{List}
-use Prim.Native.Nat.{ℕ, _+_, _-_, _*_, _≤_, _<_}
-use lib.ListN.{length, replicate}
-use Rattle.field.specs.Numbers.{putU16, putU32}
-use Rattle.field.specs.Parts.{over}
+use Prim.Native.Nat.{ℕ, _+_, _-_}
 use Rattle.tables.specs.declared.places.Places.{Places}
-use Rattle.tables.specs.declared.index.Pointer.{Pointer}
-use Rattle.tables.specs.Sector1.{freeOf, firstFreeOf, activeOf, systemOf, directoryOf}
-use Rattle.tables.specs.Indexes.{tableAt, linkOf, minus}
-
--- the byte at which index table i begins
-abbrev pub tablePlace : Places → ℕ → ℕ
-tablePlace p i = p .indextable + 128 * (i - 1)
+use Rattle.tables.specs.Sector1.{freeOf, putFree, firstFreeOf, putFirstFree, activeOf, putActive, systemOf, putSystem, directoryOf, putDirectory, putLatest}
+use Rattle.tables.specs.Indexes.{tableAt, linkOf, minus, erased, putWord, putParent, putLink, putName, putCreated, putChanged, putLength, putAttribute}
 
 -- the free chain without its head, which is one table fewer and whose bytes are zero
 unfoldable pub takeTable : Places → List ℕ → List ℕ
-takeTable p b =
-    over (putU32 (putU32 b 1050 (linkOf (tableAt p b (firstFreeOf b)))) 1036 (freeOf b - 1)) (tablePlace p (firstFreeOf b)) (replicate 128 0)
+takeTable p b = erased p (putFree (putFirstFree b (linkOf (tableAt p b (firstFreeOf b)))) (freeOf b - 1)) (firstFreeOf b) 128
 
--- that table is a child of file f, behind the file's last table: "minus its own number 0-3, parent 4-7"
+-- that table is a child of file f, after the file's last table: "minus its own number 0-3, parent 4-7"
 unfoldable pub putChild : Places → List ℕ → ℕ → ℕ → List ℕ
 unfolding takeTable
 putChild p b f last =
-    putU32 (putU32 (putU32 (takeTable p b) (tablePlace p (firstFreeOf b)) (minus (firstFreeOf b))) (tablePlace p (firstFreeOf b) + 4) f) (tablePlace p last + 124) (firstFreeOf b)
-
--- the pointer at byte `at` of table i
-unfoldable pub putPointer : Places → List ℕ → ℕ → ℕ → Pointer → List ℕ
-putPointer p b i at q = putU16 (putU32 b (tablePlace p i + at) (q .start .0)) (tablePlace p i + at + 4) (q .count)
+    putLink p (putParent p (putWord p (takeTable p b) (firstFreeOf b) (minus (firstFreeOf b))) (firstFreeOf b) f) last (firstFreeOf b)
 
 -- ---- a new file
 
@@ -39,23 +25,23 @@ pub record New : Type 0 where
   pub attribute : ℕ
 
 -- "id 0-3, name 4-27 padded with nulls": table i, all zeros, with the file's id and name
-unfoldable pub putName : Places → List ℕ → ℕ → List ℕ → List ℕ
-putName p b i name = over (putU32 b (tablePlace p i) i) (tablePlace p i + 4) name
+unfoldable pub putNamed : Places → List ℕ → ℕ → List ℕ → List ℕ
+putNamed p b i name = putName p (putWord p b i i) i name
 
 -- "created 28-33, changed 34-39": "stored as its change date (in a create as creation date too)"
 unfoldable pub putDates : Places → List ℕ → ℕ → List ℕ → List ℕ
-putDates p b i date = over (over b (tablePlace p i + 28) date) (tablePlace p i + 34) date
+putDates p b i date = putChanged p (putCreated p b i date) i date
 
 -- "byte length 40-43, attribute 44-45"
 unfoldable pub putSize : Places → List ℕ → ℕ → ℕ → ℕ → List ℕ
-putSize p b i long attribute = putU16 (putU32 b (tablePlace p i + 40) long) (tablePlace p i + 44) attribute
+putSize p b i long attribute = putAttribute p (putLength p b i long) i attribute
 
 -- the free chain's head becomes the parent of a file that has no pointers yet
-unfoldable pub putParent : Places → List ℕ → New → List ℕ
-unfolding takeTable putName putDates putSize
-putParent p b n =
-    putSize p (putDates p (putName p (takeTable p b) (firstFreeOf b) (n .name)) (firstFreeOf b) (n .date)) (firstFreeOf b) (n .length) (n .attribute)
+unfoldable pub putNewParent : Places → List ℕ → New → List ℕ
+unfolding takeTable putNamed putDates putSize
+putNewParent p b n =
+    putSize p (putDates p (putNamed p (takeTable p b) (firstFreeOf b) (n .name)) (firstFreeOf b) (n .date)) (firstFreeOf b) (n .length) (n .attribute)
 
 -- sector 1 with an active file more, s of them system and d directory files, and the date as latest update
 unfoldable pub countFile : List ℕ → ℕ → ℕ → List ℕ → List ℕ
-countFile b s d date = over (putU16 (putU16 (putU32 b 1028 (activeOf b + 1)) 1040 (systemOf b + s)) 1042 (directoryOf b + d)) 1044 date
+countFile b s d date = putLatest (putDirectory (putSystem (putActive b (activeOf b + 1)) (systemOf b + s)) (directoryOf b + d)) date

@@ -16,16 +16,16 @@ use Rattle.tables.specs.Views.{View, cov}
 use Rattle.tables.specs.Rules.R2.{ZoneBits}
 use Rattle.tables.specs.Rules.R3.{Blocks}
 use Rattle.allocation.specs.declared.choice.Found.{Found}
-use Rattle.allocation.specs.Choice.{sectorOf}
+use Rattle.allocation.specs.Choice.{blockStart}
 use Rattle.allocation.specs.NewTables.{New}
-use Rattle.allocation.specs.Stock.{Proper}
+use Rattle.allocation.specs.Candidates.{Proper}
 
 -- ---- a block
 
 -- block k of type t is free: in a zone of the type, or in one that is clear and so can be seen as one of the type
 pub record Choosable (v : View) (t : ℕ) (k : Found) : Type 0 where
   pub proper : Proper v t k
-  pub clear : (j : ℕ) → j < blockOf t → v .bit (sectorOf t k + j) ≡ 0
+  pub clear : (j : ℕ) → j < blockOf t → v .bit (blockStart t k + j) ≡ 0
   pub was : Blocks (v .bit) (firstOf (k .zone .0)) (blockOf t) (suc (k .free))
   pub kept : (v .zone (k .zone .0) .ztype ≡ t) ⊎ ZoneBits v (k .zone .0) 0
 
@@ -34,7 +34,7 @@ pub record Taken (v v' : View) (t : ℕ) (k : Found) : Type 0 where
   pub zones : v' .zones ≡ v .zones
   pub here : v' .zone (k .zone .0) ≡ record { ztype = t; free = k .free; third = 0 }
   pub there : (z : ℕ) → 1 ≤ z → z ≤ v .zones → z ≢ k .zone .0 → v' .zone z ≡ v .zone z
-  pub bit : (s : ℕ) → s < 1024 * v .zones → v' .bit s ≡ v .bit s + cov (sectorOf t k) (blockOf t) s
+  pub bit : (s : ℕ) → s < 1024 * v .zones → v' .bit s ≡ v .bit s + cov (blockStart t k) (blockOf t) s
 
 -- ---- index tables
 
@@ -72,7 +72,7 @@ pub record Written (v v' : View) (i at : ℕ) (q : Pointer) : Type 0 where
 abbrev pub childBytes : ℕ → ℕ → List ℕ
 childBytes x f = putU32 (putU32 (replicate 128 0) 0 (minus x)) 4 f
 
--- the free chain's head is a child of file f with the pointer q, behind the table `last`
+-- the free chain's head is a child of file f with the pointer q, after the table `last`
 pub record Extended (v v' : View) (f last : ℕ) (q : Pointer) : Type 0 where
   pub ground : Ground v v'
   pub indexes : v' .indexes ≡ v .indexes

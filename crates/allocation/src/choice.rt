@@ -1,27 +1,26 @@
 // The choice of blocks, one at a time, and a block taken.
-use field::runs::set_bits;
 use tables::blocks::block_sectors;
 use tables::blocks::zone_blocks;
-use tables::format::write_zone;
 use tables::kinds::Sector;
 use tables::kinds::Zone;
 use tables::kinds::first_sector;
 use tables::open::is_open;
 use tables::places::Places;
 use tables::room::spare_in;
+use tables::sector::put_sectors;
 use tables::sector::sector_bit;
+use tables::zone::put_zone;
 use tables::zone::zone_entry;
 ghost use mathlib.Core.Path.{_≡_};
 ghost use Prim.Native.Nat.{_-_, _≤_, _<_};
 ghost use lib.ListN.{length};
 ghost use Rattle.tables.specs.Blocks.{Typed};
-ghost use Rattle.tables.specs.Open.{isOpen};
 ghost use Rattle.tables.specs.Places.{Layout};
-ghost use Rattle.tables.specs.Room.{perZone};
+ghost use Rattle.tables.specs.Blocks.{perZone};
 ghost use Rattle.tables.specs.Views.{viewOf};
-ghost use Rattle.allocation.specs.Search.{find};
-ghost use Rattle.allocation.specs.Choice.{begun, lowestOpen, clear, openBlock, nextBlock, sectorOf, putBlock};
-ghost use Rattle.allocation.specs.Stock.{Proper, Behind};
+ghost use Rattle.allocation.specs.Find.{find};
+ghost use Rattle.allocation.specs.Choice.{begun, lowestOpen, isClear, openBlock, nextBlock, blockStart, putBlock};
+ghost use Rattle.allocation.specs.Candidates.{Proper, Behind};
 
 // A block by its zone, its number in the zone, and the free blocks that the zone has without it.
 pub struct Found {
@@ -66,7 +65,7 @@ fn clear_from(b: &[u8], p: Places, t: u32, z: Zone, from: u32) -> u32
     requires { ⌜ Layout p (length (now b)) ⌝ }
     requires { ⌜ Typed t ⌝ }
     requires { ⌜ (2 ≤ z .0) × (z .0 < p .zones) × (from ≤ perZone t) ⌝ }
-    ensures { λ r. ⌜ r ≡ find (clear (viewOf p (now (b .entry))) t (z .0)) (perZone t - from) from ⌝ }
+    ensures { λ r. ⌜ r ≡ find (isClear (viewOf p (now (b .entry))) t (z .0)) (perZone t - from) from ⌝ }
 {
     let first = first_sector(z).0;
     let size = block_sectors(t);
@@ -94,7 +93,7 @@ fn open_block(b: &[u8], p: Places, t: u32) -> Found
     }
 }
 
-// Where the search in zone z begins: behind the last block if that was in it.
+// Where the search in zone z begins: at the last block if that was in it.
 fn resume(z: Zone, last: Found) -> u32
     ensures { λ r. ⌜ (r ≤ last .number) × ((z .0 ≡ last .zone .0) → r ≡ last .number) × ((z .0 ≡ last .zone .0 → ⊥) → r ≡ 0) ⌝ }
 {
@@ -126,7 +125,7 @@ pub fn next_block(b: &[u8], p: Places, t: u32, last: Found) -> Found
 pub fn block_start(t: u32, k: Found) -> Sector
     requires { ⌜ Typed t ⌝ }
     requires { ⌜ (1 ≤ k .zone .0) × (k .zone .0 ≤ 256) × (k .number < perZone t) ⌝ }
-    ensures { λ r. ⌜ r .0 ≡ sectorOf t k ⌝ }
+    ensures { λ r. ⌜ r .0 ≡ blockStart t k ⌝ }
 {
     Sector(first_sector(k.zone).0 + k.number * block_sectors(t))
 }
@@ -137,12 +136,6 @@ pub fn put_block(b: &mut [u8], p: Places, t: u32, k: Found)
     requires { ⌜ Proper (viewOf p (now b)) t k ⌝ }
     ensures { λ _. ⌜ now (b .exit) ≡ putBlock p (now (b .entry)) t k ⌝ }
 {
-    write_zone(b, p, k.zone, t, k.free, 0);
-    set_bits(
-        b,
-        p.sectortable,
-        block_start(t, k).0 as usize,
-        block_sectors(t) as usize,
-        1,
-    );
+    put_zone(b, p, k.zone, t, k.free, 0);
+    put_sectors(b, p, block_start(t, k), block_sectors(t), 1);
 }

@@ -4,7 +4,7 @@ use crate::growth::add_all;
 use crate::last::cursor_of;
 use crate::table::count_file;
 use crate::table::put_change;
-use crate::table::put_parent;
+use crate::table::put_new_parent;
 use crate::tail::no_pointer;
 use tables::kinds::Index;
 use tables::places::Places;
@@ -14,9 +14,9 @@ ghost use lib.ListN.{length};
 ghost use Rattle.tables.specs.Blocks.{Typed};
 ghost use Rattle.tables.specs.Sector1.{firstFreeOf};
 ghost use Rattle.tables.specs.Views.{viewOf, Parent};
-ghost use Rattle.allocation.specs.Tails.{noPointer};
+ghost use Rattle.allocation.specs.NextPointer.{noPointer};
 ghost use Rattle.allocation.specs.Last.{cursorOf};
-ghost use Rattle.allocation.specs.Files.{onlyCounts, Provided, started, created, grown};
+ghost use Rattle.allocation.specs.MadeFiles.{onlyCounts, Provided, started, created, grown};
 
 // n blocks of type t and of no other, H to C.
 pub fn only_counts(t: u32, n: u32) -> [u32; 6]
@@ -42,7 +42,7 @@ fn start_file(
     requires { ⌜ (length (now name) ≤ 24) × (length (now date) ≡ 6) × (attribute < 128) ⌝ }
     ensures { λ r. ⌜ (r .0 ≡ firstFreeOf (now (b .entry))) × (record { books = now (b .exit); cursor = record { tail = noPointer; table = r } } ≡ started p (now (b .entry)) (record { name = now (name .entry); date = now (date .entry); length = long; attribute = attribute })) ⌝ }
 {
-    let f = put_parent(b, p, name, date, long, attribute);
+    let f = put_new_parent(b, p, name, date, long, attribute);
     count_file(b, attribute / 64 % 2, attribute / 32 % 2, date);
     f
 }
@@ -71,6 +71,7 @@ pub fn create_file(
             tail: no_pointer(),
             table: f,
         },
+        true,
     );
     f
 }
@@ -83,6 +84,6 @@ pub fn grow_file(b: &mut [u8], p: Places, f: Index, counts: [u32; 6], long: u32,
     ensures { λ _. ⌜ now (b .exit) ≡ grown p (now (b .entry)) (f .0) counts long (now (date .entry)) ⌝ }
 {
     let c = cursor_of(b, p, f);
-    add_all(b, p, f, counts, c);
+    add_all(b, p, f, counts, c, true);
     put_change(b, p, f, long, date);
 }

@@ -4,17 +4,18 @@ use crate::tail::Tail;
 use tables::index::base;
 use tables::index::link;
 use tables::index::pointer_at;
+use tables::index::pointer_place;
 use tables::index::slots;
 use tables::index::table;
 use tables::kinds::Index;
 use tables::places::Places;
 ghost use mathlib.Core.Path.{_≡_};
-ghost use Prim.Native.Nat.{_≤_, _<_};
+ghost use Prim.Native.Nat.{_≤_};
 ghost use lib.ListN.{length};
 ghost use Rattle.tables.specs.Places.{Layout};
 ghost use Rattle.tables.specs.Views.{viewOf, Parent};
 ghost use Rattle.tables.specs.Rules.R5.{R5};
-ghost use Rattle.allocation.specs.Last.{lastTable, usedPointers, lastPlace, cursorOf};
+ghost use Rattle.allocation.specs.Last.{lastTable, usedPointers, cursorOf};
 
 // The last table of file f.
 pub fn last_table(b: &[u8], p: Places, f: Index) -> Index
@@ -54,14 +55,6 @@ fn used_pointers(i: Index, t: &[u8]) -> usize
     j
 }
 
-// The byte at which the last of them begins.
-fn last_place(i: Index, t: &[u8]) -> usize
-    requires { ⌜ length (now t) ≡ 128 ⌝ }
-    ensures { λ r. ⌜ (r ≡ lastPlace (i .0) (now (t .entry))) × (r ≤ 118) ⌝ }
-{
-    base(i, t) + 6 * used_pointers(i, t) - 6
-}
-
 // Where file f goes on.
 pub fn cursor_of(b: &[u8], p: Places, f: Index) -> Cursor
     requires { ⌜ Layout p (length (now b)) ⌝ }
@@ -71,11 +64,13 @@ pub fn cursor_of(b: &[u8], p: Places, f: Index) -> Cursor
 {
     let i = last_table(b, p, f);
     let t = table(b, p, i);
-    let at = last_place(i, t);
+    let capacity = slots(i, t);
+    let slot = used_pointers(i, t);
     Cursor {
         tail: Tail {
-            last: pointer_at(t, at),
-            at,
+            last: pointer_at(t, pointer_place(capacity, slot)),
+            slot,
+            capacity,
             tables: 0,
         },
         table: i,

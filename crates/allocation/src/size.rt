@@ -1,20 +1,20 @@
 // A file's sectors, and the blocks that it lacks for a length.
 use tables::blocks::block_sectors;
+use tables::extent::file_type;
+use tables::extent::sectors_of;
 use tables::index::file;
 use tables::index::table;
 use tables::kinds::Index;
 use tables::places::Places;
-use tables::rules::files::file_type;
-use tables::rules::files::sectors_of;
 ghost use mathlib.Core.Path.{_≡_};
-ghost use Prim.Native.Nat.{_+_, _*_, _≤_, _<_};
+ghost use Prim.Native.Nat.{_≤_, _<_};
 ghost use lib.ListN.{length};
-ghost use Rattle.tables.specs.Indexes.{tableAt, fileOf, sectorsOf};
+ghost use Rattle.tables.specs.Indexes.{tableAt};
 ghost use Rattle.tables.specs.Places.{Layout};
 ghost use Rattle.tables.specs.Views.{viewOf, Parent};
 ghost use Rattle.tables.specs.Rules.R6.{R6};
 ghost use Rattle.tables.specs.Rules.R8.{fileSectors};
-ghost use Rattle.allocation.specs.Files.{ownSectors, blocksFor};
+ghost use Rattle.allocation.specs.MadeFiles.{ownSectors, blocksFor};
 
 // The sectors of file f that table i has.
 fn own_sectors(b: &[u8], p: Places, f: Index, i: Index) -> u64
@@ -26,7 +26,7 @@ fn own_sectors(b: &[u8], p: Places, f: Index, i: Index) -> u64
     if file(i, t).0 != f.0 {
         return 0;
     }
-    sectors_of(i.0, t) as u64
+    sectors_of(i, t) as u64
 }
 
 // The sectors of file f.
@@ -55,6 +55,6 @@ pub fn blocks_for(b: &[u8], p: Places, f: Index, long: u32) -> u32
     if wanted <= have {
         return 0;
     }
-    let bytes = 1024 * (block_sectors(file_type(b, p, f.0)) as u64);
+    let bytes = 1024 * (block_sectors(file_type(b, p, f)) as u64);
     ((wanted - have + (bytes - 1)) / bytes) as u32
 }

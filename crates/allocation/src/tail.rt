@@ -1,15 +1,36 @@
-// Where a file's pointers end, and a block behind that end.
+// Where a file's pointers end, and a block after that end.
 use tables::index::Pointer;
 use tables::kinds::Sector;
 ghost use mathlib.Core.Path.{_≡_};
-ghost use Prim.Native.Nat.{_+_, _≤_, _<_};
-ghost use Rattle.allocation.specs.Tails.{joins, push, noPointer};
+ghost use Prim.Native.Nat.{_≤_, _<_};
+ghost use Rattle.allocation.specs.NextPointer.{joins, push, tailOf, noPointer};
 
-// The last pointer, the byte at which it stands in its table, and the tables taken.
+// The last pointer, how many pointers its table has used, for how many it has room, and the tables taken.
 pub struct Tail {
     pub last: Pointer,
-    pub at: usize,
+    pub slot: usize,
+    pub capacity: usize,
     pub tables: u64,
+}
+
+// The tail with a block more.
+pub enum Pushed {
+    // The last pointer is longer.
+    Joined(Tail),
+    // A pointer of its own, in the same table.
+    Beside(Tail),
+    // A pointer of its own, the first of a further child.
+    Further(Tail),
+}
+
+pub fn tail_of(r: Pushed) -> Tail
+    ensures { λ l. ⌜ l ≡ tailOf r ⌝ }
+{
+    match r {
+        Pushed::Joined(l) => l,
+        Pushed::Beside(l) => l,
+        Pushed::Further(l) => l,
+    }
 }
 
 fn joins_last(l: Tail, s: Sector, size: u32) -> bool
@@ -22,39 +43,42 @@ fn joins_last(l: Tail, s: Sector, size: u32) -> bool
     l.last.count + size <= 32767
 }
 
-// The tail with a block of `size` sectors from s on behind it.
-pub fn push_block(l: Tail, s: Sector, size: u32) -> Tail
-    requires { ⌜ (l .last .count ≤ 32767) × (l .at ≤ 118) × (l .tables < 1099511627776) × (size ≤ 1024) ⌝ }
+// The tail with a block of `size` sectors from s on after it.
+pub fn push_block(l: Tail, s: Sector, size: u32) -> Pushed
+    requires { ⌜ (l .last .count ≤ 32767) × (l .tables < 1099511627776) × (size ≤ 1024) ⌝ }
     ensures { λ r. ⌜ r ≡ push l (s .0) size ⌝ }
 {
     if joins_last(l, s, size) {
         let present = l.last;
         let start = present.start;
-        return Tail {
+        return Pushed::Joined(Tail {
             last: Pointer {
                 start,
                 count: present.count + size,
             },
-            at: l.at,
+            slot: l.slot,
+            capacity: l.capacity,
             tables: l.tables,
-        };
+        });
     }
     let last = Pointer {
         start: s,
         count: size,
     };
-    if l.at + 12 <= 124 {
-        return Tail {
+    if l.slot < l.capacity {
+        return Pushed::Beside(Tail {
             last,
-            at: l.at + 6,
+            slot: l.slot + 1,
+            capacity: l.capacity,
             tables: l.tables,
-        };
+        });
     }
-    Tail {
+    Pushed::Further(Tail {
         last,
-        at: 22,
+        slot: 1,
+        capacity: 17,
         tables: l.tables + 1,
-    }
+    })
 }
 
 // The tail of a new file.
@@ -66,7 +90,8 @@ pub fn no_pointer() -> Tail
             start: Sector(0),
             count: 0,
         },
-        at: 58,
+        slot: 0,
+        capacity: 10,
         tables: 1,
     }
 }

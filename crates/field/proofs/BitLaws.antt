@@ -1,14 +1,14 @@
--- The laws of bits: of a byte, and of a table of bits. Assumes nothing.
-use mathlib.Core.Path.{_≡_, refl, sym, ap, _∙_, subst}
-use mathlib.Core.Logic.{_≢_, _⊎_, inl, inr, ⊎-elim}
+-- The laws of bits: of a byte, and of a table of bits.
+use mathlib.Core.Path.{_≡_, sym, ap, _∙_, subst}
+use mathlib.Core.Logic.{_≢_, _⊎_, inl, inr}
 use Prim.Native.Nat.{ℕ, zero, suc, _+_, _-_, _*_, _/_, _%_, _^_, _≤_, _<_}
-use native.Mathlib.Nat.{mod-lt, div-add-mod', div-lt-iff-lt-mul, div-div-eq-div-mul, add-mul-mod-self-right, add-mul-div-right, mul-assoc, mul-comm, add-comm, add-assoc, add-mul, zero-mul, one-mul}
+use native.Mathlib.Nat.{mod-lt, div-add-mod', div-lt-iff-lt-mul, div-div-eq-div-mul, add-mul-mod-self-right, add-mul-div-right, mul-assoc, mul-comm, add-assoc, add-mul, zero-mul, one-mul}
 use native.Mathlib.Omega.{arith}
 use native.Mathlib.Decide.{ℕ-discrete, decLt}
 use mathlib.Core.List.{List}
-use lib.ListN.{getD, set, length, length-set}
+use lib.ListN.{getD, set, length}
 use lib.Seq.{getD-set-same, getD-set-other}
-use lib.Pow.{pow-pos, pow-add, pow-mono}
+use lib.Pow.{pow-pos, pow-add}
 use lib.Arith.{digits-lt, digits-div, digits-mod}
 use Rattle.field.specs.Bits.{bitOf, withBit, bitAt, putBit}
 use Rattle.field.specs.Kept.{Kept, Apart}

@@ -1,4 +1,4 @@
--- Runs of whole bytes: all bits by all bytes, and the set bits counted. Assumes nothing.
+-- Runs of whole bytes: all bits by all bytes, and the set bits counted.
 use mathlib.Core.Path.{_≡_}
 use mathlib.Core.Bool.{Bool}
 use Prim.Native.Nat.{ℕ, _+_, _*_, _/_, _%_, _≤_, _<_}

@@ -1,12 +1,12 @@
--- The laws of frames: how the frames of writes are put together. Assumes nothing.
-use mathlib.Core.Path.{_≡_, refl, _∙_}
+-- The laws of frames: how the frames of writes are put together.
+use mathlib.Core.Path.{refl, _∙_}
 use mathlib.Core.Logic.{_⊎_, inl, inr, ⊎-elim}
 use Prim.Native.Nat.{ℕ, _+_, _≤_}
 use native.Mathlib.Omega.{arith}
 use mathlib.Core.List.{List}
 use lib.ListN.{set, length-set}
 use lib.Seq.{getD-set-other}
-use Rattle.field.specs.Kept.{Kept, Apart}
+use Rattle.field.specs.Kept.{Kept}
 
 pub kept-refl : (b : List ℕ) (o n : ℕ) → Kept b b o n
 kept-refl b o n = record { len = refl; out = λ j a. refl }

@@ -1,4 +1,4 @@
--- The laws of numbers in bytes: what callers cite instead of the definitions. Assumes nothing.
+-- The laws of numbers in bytes: what callers cite instead of the definitions.
 use mathlib.Core.Path.{_≡_, refl, sym, ap, _∙_}
 use mathlib.Core.Logic.{inl, inr}
 use Prim.Native.Nat.{ℕ, zero, suc, _+_, _*_, _/_, _%_, _≤_, _<_}
@@ -91,10 +91,6 @@ u32-put-same b o v h =
 
 pub getD-part : (b : List ℕ) (a n j : ℕ) → j < n → getD (take n (drop a b)) j 0 ≡ getD b (a + j) 0
 getD-part b a n j l = getD-take n (drop a b) j 0 l ∙ getD-drop a b j 0
-
-pub u16-part : (b : List ℕ) (a n o : ℕ) → o + 2 ≤ n → u16At (take n (drop a b)) o ≡ u16At b (a + o)
-unfolding u16At
-u16-part b a n o h = rw (getD-part b a n o (omega arith), getD-part b a n (o + 1) (omega arith), add-assoc a o 1)
 
 pub u32-part : (b : List ℕ) (a n o : ℕ) → o + 4 ≤ n → u32At (take n (drop a b)) o ≡ u32At b (a + o)
 unfolding u32At

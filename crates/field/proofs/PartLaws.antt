@@ -1,4 +1,4 @@
--- The laws of parts that are laid over. Assumes nothing.
+-- The laws of parts that are laid over.
 use mathlib.Core.Path.{_≡_, refl, sym, ap, _∙_}
 use mathlib.Core.Logic.{_⊎_, inl, inr, ⊎-elim}
 use Prim.Native.Nat.{ℕ, _+_, _-_, _*_, _≤_, _<_}
@@ -13,7 +13,7 @@ use lib.Seq.{paste, paste-suc, ext-getD, take-length, getD-take, getD-drop, getD
 use Rattle.field.specs.Says.{Says}
 use Rattle.field.specs.Numbers.{u32At}
 use Rattle.field.specs.Parts.{over, AllBytes}
-use Rattle.field.specs.Kept.{Kept, Apart}
+use Rattle.field.specs.Kept.{Kept}
 use Rattle.field.proofs.Tests.{says-eq}
 use Rattle.field.proofs.NumberLaws.{getD-part}
 

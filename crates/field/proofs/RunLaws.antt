@@ -1,6 +1,6 @@
--- The laws of runs of bits. Assumes nothing.
+-- The laws of runs of bits.
 use mathlib.Core.Path.{_≡_, refl, sym, ap, ap₂, _∙_}
-use mathlib.Core.Logic.{_≢_, _⊎_, inl, inr, ⊎-elim}
+use mathlib.Core.Logic.{_⊎_, inl, inr, ⊎-elim}
 use Prim.Native.Nat.{ℕ, zero, suc, _+_, _-_, _*_, _/_, _%_, _^_, _≤_, _<_}
 use native.Mathlib.Nat.{le-of-suc-le-suc, not-suc-le-zero, eq-or-lt-of-le, add-zero, add-suc, add-assoc, div-div-eq-div-mul, mod-eq-of-lt, zero-div, div-one}
 use native.Mathlib.Numerals.{add-one}
@@ -16,12 +16,12 @@ use lib.Count.{ones, ones-step, ones-ones}
 use Rattle.field.specs.Says.{Says}
 use Rattle.field.specs.Sum.{sumTo}
 use Rattle.field.specs.Bits.{bitOf, bitAt, putBit}
-use Rattle.field.specs.Kept.{Kept, Apart}
+use Rattle.field.specs.Kept.{Kept}
 use Rattle.field.specs.Runs.{Room, Width, AllBits, setBits, countBits}
 use Rattle.field.proofs.Frames.{kept-refl, kept-trans, kept-wider}
 use Rattle.field.proofs.Tests.{says-eq}
 use Rattle.field.proofs.Sums.{sum-same, sum-cut, sum-le}
-use Rattle.field.proofs.BitLaws.{bit-lt, bitAt-lt, kept-putBit, bit-put-same, bit-put-other, putBit-lt}
+use Rattle.field.proofs.BitLaws.{bitAt-lt, kept-putBit, bit-put-same, bit-put-other, putBit-lt}
 
 -- ---- a run that is written
 

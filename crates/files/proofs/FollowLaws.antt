@@ -1,4 +1,4 @@
--- A file whose tables keep their pointers, the last of which may be longer and have others behind it: its sectors stay at their places. Assumes nothing.
+-- A file whose tables keep their pointers, the last of which may be longer and have others after it: its sectors stay at their places.
 use mathlib.Core.Path.{_≡_, refl, sym, ap, _∙_}
 use mathlib.Core.Logic.{_≢_}
 use mathlib.Core.Bool.{Bool, true, false}
@@ -14,7 +14,7 @@ use Rattle.tables.specs.Rules.R5.{R5}
 use Rattle.tables.specs.Rules.R6.{R6}
 use Rattle.tables.specs.Rules.R8.{fileSectors}
 use Rattle.tables.proofs.ChoiceLaws.{sum-mono}
-use Rattle.tables.proofs.CountLaws.{only-eq, only-ne}
+use Rattle.tables.proofs.Sector1CountLaws.{only-eq, only-ne}
 use Rattle.allocation.proofs.ChangeLaws.{member-begins, member-file}
 use Rattle.files.specs.declared.spot.Spot.{Spot}
 use Rattle.files.specs.Spots.{spotAt, spotStart, spotCount, moreAt, onward, spotOf, kthSector}

@@ -1,4 +1,4 @@
--- Index tables given back, one and then those of a file: their bytes, the bits of their sectors, and what stays of the books. Assumes nothing.
+-- Index tables given back, one and then those of a file: their bytes, the bits of their sectors, and what stays of the books.
 use mathlib.Core.Path.{_≡_, refl, sym, ap, _∙_}
 use mathlib.Core.Logic.{_≢_, inl, inr}
 use mathlib.Core.List.{List}
@@ -18,7 +18,7 @@ use Rattle.field.proofs.NumberLaws.{u32-kept, getD-zeros}
 use Rattle.field.proofs.PartLaws.{kept-over, over-part, same-at}
 use Rattle.field.proofs.RunLaws.{kept-setBits, set-in, set-out}
 use Rattle.tables.specs.declared.places.Places.{Places}
-use Rattle.tables.specs.Indexes.{tableAt, linkOf, slotsOf, startOf, countOf}
+use Rattle.tables.specs.Indexes.{tablePlace, tableAt, linkOf, slotsOf, startOf, countOf}
 use Rattle.tables.specs.Places.{Layout}
 use Rattle.tables.specs.Sectors.{sectorAt}
 use Rattle.tables.specs.Views.{viewOf, Parent, walk, next, cov, overOf}
@@ -28,10 +28,10 @@ use Rattle.tables.proofs.FrameLaws.{table-kept}
 use Rattle.tables.proofs.IndexLaws.{length-table}
 use Rattle.tables.proofs.PointerLaws.{cov-in, cov-before, cov-after}
 use Rattle.allocation.specs.Lengthened.{Quiet}
-use Rattle.allocation.specs.NewTables.{tablePlace}
 use Rattle.allocation.proofs.TableLaws.{table-over, table-other}
-use Rattle.files.specs.Release.{clearRuns, freeTable, freeTables, RunsWithin}
-use Rattle.files.proofs.FileTables.{tables-in, tables-once}
+use Rattle.files.specs.Release.{chainOf, clearRuns, freeTable, freeTables}
+use Rattle.files.specs.Asked.{RunsWithin}
+use Rattle.files.proofs.FileTables.{tablesFrom, tables-in, tables-once, chain-tables}
 
 -- ---- runs of sectors
 
@@ -161,6 +161,10 @@ module _ (p : Places) (b : List ℕ) (i : ℕ) (lay : Layout p (length b)) (lo :
 
 -- ---- the first n tables of a file that has m + 1
 
+unfoldable pub freeFirst : Places → List ℕ → ℕ → ℕ → List ℕ
+freeFirst p b f zero = b
+freeFirst p b f (suc n) = freeTable p (freeFirst p b f n) (walk (next (viewOf p b)) f n)
+
 -- they are free in the books x, and no other table is changed
 pub record Blanked (p : Places) (b : List ℕ) (f n : ℕ) (x : List ℕ) : Type 0 where
   pub spared : Spared p b x
@@ -204,19 +208,29 @@ module _ (p : Places) (b : List ℕ) (lay : Layout p (length b)) (r6 : R6 (viewO
           ];
         }
 
-  pub tables-blanked : (n : ℕ) → n ≤ suc m → Blanked p b f n (freeTables p b f n)
-  unfolding freeTables
+  pub tables-blanked : (n : ℕ) → n ≤ suc m → Blanked p b f n (freeFirst p b f n)
+  unfolding freeFirst
   tables-blanked zero l = record { spared = spared-refl p b; there = λ j lj ne. refl; here = λ k lk. absurd (not-suc-le-zero lk) }
-  tables-blanked (suc n) l = blanked-more n l (freeTables p b f n) (tables-blanked n (omega arith))
+  tables-blanked (suc n) l = blanked-more n l (freeFirst p b f n) (tables-blanked n (omega arith))
 
   -- their sectors are cleared, if they are set and none is under two pointers
   pub tables-bits : (s : ℕ) → s < 1024 * p .zones → (n : ℕ) → n ≤ suc m → sumTo n (λ k. overOf (nth k) (tableAt p b (nth k)) s) ≤ sectorAt p b s
-      → sectorAt p (freeTables p b f n) s + sumTo n (λ k. overOf (nth k) (tableAt p b (nth k)) s) ≡ sectorAt p b s
-  unfolding freeTables sumTo
+      → sectorAt p (freeFirst p b f n) s + sumTo n (λ k. overOf (nth k) (tableAt p b (nth k)) s) ≡ sectorAt p b s
+  unfolding freeFirst sumTo
   tables-bits s ls zero l set = omega arith
   tables-bits s ls (suc n) l set =
-      let x = freeTables p b f n in
+      let x = freeFirst p b f n in
       let h = tables-blanked n (omega arith) in
       let o = tables-bits s ls n (omega arith) (omega arith) in
       let e : overOf (nth n) (tableAt p x (nth n)) s ≡ overOf (nth n) (tableAt p b (nth n)) s = ap (λ (t : List ℕ). overOf (nth n) t s) (blanked-table n l x h) in
       omega (arith, table-bits p x (nth n) (lay' n l x h) (inside n l .0) (inside n l .1) (blanked-within n l x h) s ls (omega (arith, e, o)))
+
+  -- all of them
+  free-rest : (d k : ℕ) → freeTables p (freeFirst p b f k) (tablesFrom (next (viewOf p b)) f k d) ≡ freeFirst p b f (k + d)
+  unfolding freeTables freeFirst tablesFrom
+  free-rest zero k = rw (add-zero k)
+  free-rest (suc d) k = free-rest d (suc k) ∙ ap (freeFirst p b f) (let e : suc k + d ≡ k + suc d = omega arith in e)
+
+  pub free-all : freeTables p b (chainOf (viewOf p b) f) ≡ freeFirst p b f (suc m)
+  unfolding freeFirst
+  free-all = ap (freeTables p b) (chain-tables (viewOf p b) f m parent ch) ∙ free-rest (suc m) 0 ∙ ap (freeFirst p b f) (let e : 0 + suc m ≡ suc m = omega arith in e)

@@ -1,4 +1,4 @@
--- A file given back: other files and sector 1's counts. R8 and R9. Assumes nothing.
+-- A file given back: other files and sector 1's counts. R8 and R9.
 use mathlib.Core.Path.{_≡_, sym, ap, _∙_}
 use mathlib.Core.Logic.{_≢_}
 use mathlib.Core.List.{List}
@@ -9,21 +9,21 @@ use lib.Dec.{eqb}
 use Rattle.field.proofs.Sums.{sum-same, sum-add}
 use Rattle.tables.specs.declared.zone.ZoneEntry.{ZoneEntry}
 use Rattle.tables.specs.Kinds.{zoneOf}
-use Rattle.tables.specs.Indexes.{wordOf, attributeOf, sectorsOf, fileOf}
+use Rattle.tables.specs.Indexes.{wordOf, attributeOf, sectorsOf, fileOf, deletedBit}
 use Rattle.tables.specs.Views.{View, Parent, walk, next, onlyIf, tally, Under}
 use Rattle.tables.specs.Rules.R4.{R4}
 use Rattle.tables.specs.Rules.R5.{R5}
 use Rattle.tables.specs.Rules.R6.{R6}
 use Rattle.tables.specs.Rules.R8.{fileSectors, R8}
-use Rattle.tables.specs.Rules.R9.{deletedBit, freeOne, activeOne, deletedOne, systemOne, directoryOne, R9}
+use Rattle.tables.specs.Rules.R9.{freeOne, activeOne, deletedOne, systemOne, directoryOne, R9}
 use Rattle.tables.proofs.ChainLaws.{walk-none}
-use Rattle.tables.proofs.CountLaws.{Ones, only-eq, only-ne, ones-other, ones-deleted, free-yes, free-no}
+use Rattle.tables.proofs.Sector1CountLaws.{Ones, only-eq, only-ne, ones-other, ones-deleted, free-yes, free-no}
 use Rattle.tables.proofs.IndexLaws.{file-free}
 use Rattle.allocation.proofs.FileSame.{file-same}
 use Rattle.allocation.proofs.ChangeLaws.{parent-file, parent-under, sum-first}
 use Rattle.files.specs.Release.{fileTables}
 use Rattle.files.specs.Freed.{Freed}
-use Rattle.files.proofs.FileTables.{file-tally}
+use Rattle.files.proofs.FileTables.{file-tally, tables-tally}
 use Rattle.files.proofs.FreedTables.{freed-word, tally-gone}
 
 module _ (v v' : View) (f : ℕ) (h : Freed v v' f) where
@@ -67,8 +67,8 @@ module _ (v v' : View) (f : ℕ) (h : Freed v v' f) where
 
   module _ (few : v .indexes ≤ 4096) (r4 : R4 v) (r5 : R5 v) (parent : Parent v f) where
     free-more : tally v' freeOne ≡ tally v freeOne + fileTables v f
-    unfolding fileTables tally
-    free-more = rw (h .indexes) (sum-same (v .indexes) _ _ (λ k l. here (k + 1) (omega arith) (omega arith)) ∙ sum-add (v .indexes) _ _)
+    unfolding tally
+    free-more = rw (h .indexes, tables-tally v r4 r5 few f parent) (sum-same (v .indexes) _ _ (λ k l. here (k + 1) (omega arith) (omega arith)) ∙ sum-add (v .indexes) _ _)
       where
         here : (j : ℕ) → 1 ≤ j → j ≤ v .indexes → freeOne j (v' .table j) ≡ freeOne j (v .table j) + onlyIf (eqb (fileOf j (v .table j)) f) 1
         here j lo hi =

@@ -1,25 +1,28 @@
--- A file given back: what its pointers lie over is free, and blocks stay whole. R2, R6 and R7. Assumes nothing.
+-- A file given back: what its pointers lie over is free, and blocks stay whole. R2, R6 and R7.
 use mathlib.Core.Path.{_≡_, sym, ap, _∙_}
 use mathlib.Core.Logic.{_⊎_, inl, inr, ⊎-elim}
 use mathlib.Core.List.{List}
-use Prim.Native.Nat.{ℕ, _+_, _-_, _*_, _≤_, _<_}
+use Prim.Native.Nat.{ℕ, _+_, _-_, _*_, _/_, _≤_, _<_}
+use native.Mathlib.Nat.{mul-one}
 use native.Mathlib.Decide.{ℕ-discrete, decLt}
 use native.Mathlib.Omega.{arith}
 use lib.Dec.{eqb}
-use Rattle.field.proofs.Sums.{sum-same}
+use Rattle.field.specs.Sum.{sumTo}
+use Rattle.field.proofs.Sums.{sum-same, sum-add, sum-zero}
 use Rattle.tables.specs.Kinds.{firstOf}
 use Rattle.tables.specs.Blocks.{Typed, blockOf, Whole}
 use Rattle.tables.specs.Indexes.{wordOf, slotsOf, startOf, countOf, fileOf}
 use Rattle.tables.specs.Views.{View, onlyIf, tally, overOf, pointersOver}
-use Rattle.tables.specs.Rules.R2.{ZoneBits, R2}
+use Rattle.tables.specs.Rules.R2.{ZoneBits, Untyped, R2}
 use Rattle.tables.specs.Rules.R3.{R3}
 use Rattle.tables.specs.Rules.R6.{Shape, R6}
 use Rattle.tables.specs.Rules.R7.{R7}
 use Rattle.tables.proofs.BlockLaws.{block-of, block-in}
 use Rattle.tables.proofs.IndexLaws.{slots-free}
-use Rattle.tables.proofs.PointerLaws.{cov-none, under-some, under-inside}
-use Rattle.allocation.proofs.ChangeLaws.{over-free, run-zones}
-use Rattle.files.specs.Freed.{gone, Freed}
+use Rattle.tables.proofs.PointerLaws.{cov-none, under-some, under-inside, over-none}
+use Rattle.allocation.proofs.ChangeLaws.{run-zones}
+use Rattle.files.specs.Release.{gone, freedBlocks}
+use Rattle.files.specs.Freed.{Freed, Short}
 use Rattle.files.proofs.FreedTables.{freed-word, tally-gone}
 
 -- the pointers of a table lie over whole blocks
@@ -46,7 +49,7 @@ module _ (v v' : View) (f : ℕ) (h : Freed v v' f) where
 
   pointers-gone : (s : ℕ) → pointersOver v' s + gone v f s ≡ pointersOver v s
   unfolding pointersOver gone
-  pointers-gone s = tally-gone v v' f h (λ i t. overOf i t s) (λ j t lo e. over-free j t s e)
+  pointers-gone s = tally-gone v v' f h (λ i t. overOf i t s) (λ j t lo e. over-none j t s e)
 
   pub freed-R7 : R7 v → R7 v'
   freed-R7 r s l lo =
@@ -72,12 +75,45 @@ module _ (v v' : View) (f : ℕ) (h : Freed v v' f) where
     gone-whole z l lo typed k lk j lj =
         sum-same (v .indexes) _ _ (λ n ln. ap (onlyIf (eqb (fileOf (n + 1) (v .table (n + 1))) f)) (over-whole v (n + 1) (r6 (n + 1) (omega arith) (omega arith)) z l lo typed k lk j lj))
 
-    pub freed-blocks : R3 v → (z : ℕ) → z < v' .zones → 2 ≤ z → Typed (v' .zone z .ztype) → Whole (v' .bit) (firstOf z) (blockOf (v' .zone z .ztype))
-    freed-blocks r z l lo =
+    blocks-left : R3 v → (z : ℕ) → z < v' .zones → 2 ≤ z → Typed (v' .zone z .ztype) → Whole (v' .bit) (firstOf z) (blockOf (v' .zone z .ztype))
+    blocks-left r z l lo =
         let l' : z < v .zones = rw (h .zones) at l in
         rw (h .zone z (omega arith) (omega arith)) (λ typed k lk j lj. (let size = blockOf (v .zone z .ztype) in
         let fits = block-in k size (block-of _ typed) lk in
         omega (arith, h .bit (firstOf z + k * size + j) (omega arith), h .bit (firstOf z + k * size) (omega arith), gone-whole z l' lo typed k lk j lj, r z l' lo typed .whole k lk j lj)))
+
+    -- ---- the free counts are short of the blocks that are freed
+
+    module _ (small : (s : ℕ) → v .bit s < 2) (z : ℕ) (l : z < v .zones) (lo : 2 ≤ z) where
+      abbrev size : ℕ
+      size = blockOf (v .zone z .ztype)
+
+      blocks-more : R3 v → Typed (v .zone z .ztype) → sumTo (1024 / size) (λ k. 1 - v' .bit (firstOf z + k * size)) ≡ v .zone z .free + freedBlocks v f z
+      unfolding freedBlocks
+      blocks-more r typed =
+          sum-same (1024 / size) _ _ (λ k lk. (let fits = block-in k size (block-of _ typed) lk in omega (arith, h .bit (firstOf z + k * size) (omega arith), small (firstOf z + k * size))))
+          ∙ sum-add (1024 / size) (λ k. 1 - v .bit (firstOf z + k * size)) (λ k. gone v f (firstOf z + k * size))
+          ∙ ap (λ (n : ℕ). n + sumTo (1024 / size) (λ k. gone v f (firstOf z + k * size))) (r z l lo typed .number)
+
+      -- a zone of no type has no sector in use
+      none-clear : Untyped v z → (k : ℕ) → k < 1024 / size → gone v f (firstOf z + k * size) ≡ 0
+      unfolding blockOf
+      none-clear u k lk =
+          let one : blockOf (v .zone z .ztype) ≡ 1 = ap blockOf (u .reads .ztype) in
+          let lk' : k < 1024 = rw one at lk in
+          let e : k * size ≡ k = ap (λ (x : ℕ). k * x) one ∙ mul-one k in
+          omega (arith, u .clear (k * size) (omega arith), h .bit (firstOf z + k * size) (omega arith))
+
+      none-freed : R2 v → (Typed (v .zone z .ztype) → ⊥) → freedBlocks v f z ≡ 0
+      unfolding freedBlocks
+      none-freed r out = ⊎-elim (λ u. sum-zero (1024 / size) _ (none-clear u)) (λ u. absurd (out (u .typed))) (r z (omega arith) (omega arith) .other lo l)
+
+      pub freed-short : R2 v → R3 v → Short v' z (freedBlocks v f z)
+      freed-short r2 r3 =
+          let e = h .zone z (omega arith) (omega arith) in record {
+            typed = λ t. record { whole = blocks-left r3 z (rw (h .zones) l) lo t; number = rw e (blocks-more r3 (rw e at t)) };
+            other = λ out. none-freed r2 (λ t. out (rw e t));
+          }
 
     -- ---- R2: no pointer lies over zones 1 and Z
 

@@ -1,4 +1,4 @@
--- A file given back: its tables are free and stand before the old free chain, all others are as they were. R4 and R5. Assumes nothing.
+-- A file given back: its tables are free and stand before the old free chain, all others are as they were. R4 and R5.
 use mathlib.Core.Path.{_≡_, sym, ap, _∙_}
 use mathlib.Core.Logic.{_≢_, inl}
 use mathlib.Core.List.{List}
@@ -14,7 +14,7 @@ use Rattle.tables.specs.Views.{View, Begins, Free, Parent, Child, walk, next, o
 use Rattle.tables.specs.Rules.R4.{FreeChain, Own, R4}
 use Rattle.tables.specs.Rules.R5.{FileChain, Stands, R5}
 use Rattle.tables.proofs.ChainLaws.{walk-add, walk-same}
-use Rattle.tables.proofs.CountLaws.{only-eq, only-ne}
+use Rattle.tables.proofs.Sector1CountLaws.{only-eq, only-ne}
 use Rattle.allocation.specs.Last.{lastTable}
 use Rattle.allocation.proofs.LastLaws.{last-table}
 use Rattle.allocation.proofs.ChangeLaws.{Stays, free-file, parent-file, child-file, member-file, stays-same, walk-stays, chain-stays}

@@ -1,8 +1,8 @@
--- The bytes of a file given back, as the rules see them. Assumes nothing.
+-- The bytes of a file given back, as the rules see them.
 use mathlib.Core.Path.{_≡_, refl, sym, ap, _∙_}
 use mathlib.Core.Logic.{_≢_, inl, inr}
 use mathlib.Core.List.{List}
-use Prim.Native.Nat.{ℕ, zero, suc, _+_, _-_, _*_, _≤_, _<_}
+use Prim.Native.Nat.{ℕ, suc, _+_, _-_, _*_, _≤_, _<_}
 use native.Mathlib.Decide.{ℕ-discrete, decLt}
 use native.Mathlib.Omega.{arith}
 use lib.Dec.{eqb}
@@ -16,35 +16,29 @@ use Rattle.field.proofs.Frames.{kept-refl, kept-trans, kept-wider}
 use Rattle.field.proofs.NumberLaws.{u16-kept, u32-kept, kept-putU32, u32-put-same}
 use Rattle.field.proofs.PartLaws.{kept-over}
 use Rattle.tables.specs.declared.places.Places.{Places}
-use Rattle.tables.specs.Indexes.{tableAt, linkOf, fileOf}
+use Rattle.tables.specs.Indexes.{tablePlace, tableAt, linkOf, putLink, fileOf}
 use Rattle.tables.specs.Places.{Layout}
 use Rattle.tables.specs.Lawful.{Lawful}
 use Rattle.tables.specs.Sector1.{activeOf, deletedOf, freeOf, systemOf, directoryOf, firstFreeOf, flagOf}
 use Rattle.tables.specs.Sectors.{sectorAt}
 use Rattle.tables.specs.Views.{View, viewOf, Parent, walk, next, tally, overOf, pointersOver}
 use Rattle.tables.specs.Rules.R5.{FileChain}
-use Rattle.tables.proofs.CountLaws.{only-le}
+use Rattle.tables.proofs.ChoiceLaws.{sum-mono}
+use Rattle.tables.proofs.Sector1CountLaws.{only-le}
 use Rattle.tables.proofs.FrameLaws.{sector1-zone, sector1-bit, sector1-table, sector1-tails}
 use Rattle.tables.proofs.IndexLaws.{length-table}
 use Rattle.tables.proofs.PointerLaws.{under-some, under-inside}
 use Rattle.tables.proofs.ZoneEntryLaws.{zone-kept}
 use Rattle.allocation.specs.Last.{lastTable}
 use Rattle.allocation.specs.Lengthened.{Quiet}
-use Rattle.allocation.specs.NewTables.{tablePlace}
 use Rattle.allocation.proofs.ChangeLaws.{member-file}
 use Rattle.allocation.proofs.HeldLawful.{quiet-trans}
 use Rattle.allocation.proofs.LastLaws.{last-table}
 use Rattle.allocation.proofs.TableLaws.{table-put32, table-other}
-use Rattle.files.specs.Release.{freeTables, fileTables, putFreed, freedFile}
-use Rattle.files.specs.Freed.{gone, Freed}
-use Rattle.files.proofs.FileTables.{tables-in, file-member, file-tally, tables-long}
-use Rattle.files.proofs.FreedBytes.{Spared, spared-trans, spared-quiet, spared-table, blank-zeros, blank-link, Blanked, tables-blanked, tables-bits}
-
--- a sum of parts that are no more than another's
-sum-under : (n : ℕ) (f g : ℕ → ℕ) → ((k : ℕ) → f k ≤ g k) → sumTo n f ≤ sumTo n g
-unfolding sumTo
-sum-under zero f g h = omega arith
-sum-under (suc n) f g h = omega (arith, sum-under n f g h, h n)
+use Rattle.files.specs.Release.{chainOf, fileTables, freeTables, putFreed, freedFile, gone}
+use Rattle.files.specs.Freed.{Freed}
+use Rattle.files.proofs.FileTables.{tables-in, file-member, file-tally}
+use Rattle.files.proofs.FreedBytes.{freeFirst, Spared, spared-trans, spared-quiet, spared-table, blank-zeros, blank-link, Blanked, tables-blanked, tables-bits, free-all}
 
 -- ---- sector 1
 
@@ -119,7 +113,7 @@ module _ (p : Places) (b : List ℕ) (lay : Layout p (length b)) (lawful : Lawfu
 
   gone-le : (s : ℕ) → gone v f s ≤ pointersOver v s
   unfolding gone pointersOver tally
-  gone-le s = sum-under (p .indexes) _ _ (λ k. only-le (eqb (fileOf (k + 1) (tableAt p b (k + 1))) f) (overOf (k + 1) (tableAt p b (k + 1)) s))
+  gone-le s = sum-mono (p .indexes) _ _ (λ k l. only-le (eqb (fileOf (k + 1) (tableAt p b (k + 1))) f) (overOf (k + 1) (tableAt p b (k + 1)) s))
 
   gone-set : (s : ℕ) → gone v f s ≤ sectorAt p b s
   gone-set s =
@@ -131,14 +125,14 @@ module _ (p : Places) (b : List ℕ) (lay : Layout p (length b)) (lawful : Lawfu
         | no none ↦ omega arith
       ]
 
-  long : fileTables v f ≡ suc m
-  long = tables-long v (lawful .r4) (lawful .r5) (lay .few) f parent
+  all : freeTables p b (chainOf v f) ≡ freeFirst p b f (suc m)
+  all = free-all p b lay (lawful .r6) f m parent chain
 
-  pub all-freed : Blanked p b f (suc m) (freeTables p b f (fileTables v f))
-  all-freed = rw long (tables-blanked p b lay (lawful .r6) f m parent chain (suc m) (omega arith))
+  pub all-freed : Blanked p b f (suc m) (freeTables p b (chainOf v f))
+  all-freed = rw all (tables-blanked p b lay (lawful .r6) f m parent chain (suc m) (omega arith))
 
-  all-bits : (s : ℕ) → s < 1024 * p .zones → sectorAt p (freeTables p b f (fileTables v f)) s + gone v f s ≡ sectorAt p b s
-  all-bits s l = rw (long, gone-is s) (tables-bits p b lay (lawful .r6) f m parent chain s l (suc m) (omega arith) (omega (arith, gone-is s, gone-set s)))
+  all-bits : (s : ℕ) → s < 1024 * p .zones → sectorAt p (freeTables p b (chainOf v f)) s + gone v f s ≡ sectorAt p b s
+  all-bits s l = rw (all, gone-is s) (tables-bits p b lay (lawful .r6) f m parent chain s l (suc m) (omega arith) (omega (arith, gone-is s, gone-set s)))
 
   -- ---- then the last link
 
@@ -151,7 +145,7 @@ module _ (p : Places) (b : List ℕ) (lay : Layout p (length b)) (lawful : Lawfu
   last-in : (1 ≤ last) × (last ≤ p .indexes)
   last-in = rw last-is at (inside m (omega arith))
 
-  module _ (c d : List ℕ) (h : Blanked p b f (suc m) c) (ed : d ≡ putU32 c (tablePlace p last + 124) (firstFreeOf b)) where
+  module _ (c d : List ℕ) (h : Blanked p b f (suc m) c) (ed : d ≡ putLink p c last (firstFreeOf b)) where
     link-kept : Kept c d (tablePlace p last) 128
     link-kept = rw ed (kept-wider (kept-putU32 c (tablePlace p last + 124) (firstFreeOf b)) (omega arith) (omega arith))
 

@@ -1,23 +1,23 @@
--- A file that gets blocks: the tables of other files stay, and the file's own sectors stay at their places. Assumes nothing.
+-- A file that gets blocks: the tables of other files stay, and the file's own sectors stay at their places.
 use mathlib.Core.Path.{_≡_, refl, sym, ap, _∙_}
-use mathlib.Core.Logic.{_≢_, inl, inr}
+use mathlib.Core.Logic.{inl, inr}
 use mathlib.Core.List.{List, [], _∷_}
 use Prim.Native.Nat.{ℕ, _+_, _≤_, _<_}
-use native.Mathlib.Decide.{ℕ-discrete}
 use native.Mathlib.Omega.{arith}
 use lib.ListN.{length}
 use Rattle.tables.specs.declared.places.Places.{Places}
 use Rattle.tables.specs.Blocks.{blockOf}
-use Rattle.tables.specs.Indexes.{tableAt, fileOf}
+use Rattle.tables.specs.Indexes.{tableAt, fileOf, systemBit, directoryBit}
 use Rattle.tables.specs.Sector1.{firstFreeOf}
 use Rattle.tables.specs.Views.{View, viewOf, Free, Parent}
-use Rattle.tables.specs.Rules.R8.{systemBit, directoryBit}
 use Rattle.tables.proofs.IndexLaws.{length-table}
 use Rattle.allocation.specs.declared.choice.Found.{Found}
 use Rattle.allocation.specs.declared.tail.Tail.{Tail}
+use Rattle.allocation.specs.declared.tail.Pushed.{Pushed}
+use Rattle.allocation.specs.declared.tail.Pushed.the-variants.{Joined, Beside, Further}
 use Rattle.allocation.specs.declared.growth.Cursor.{Cursor}
-use Rattle.allocation.specs.Choice.{nextBlock, sectorOf, putBlock, inOrder, inTurn}
-use Rattle.allocation.specs.Tails.{noPointer, push, longer, beside, further}
+use Rattle.allocation.specs.Choice.{nextBlock, blockStart, putBlock, inOrder, inTurn}
+use Rattle.allocation.specs.NextPointer.{noPointer, placeOf, push, tailOf, longer, beside, further}
 use Rattle.allocation.specs.Last.{cursorOf}
 use Rattle.allocation.specs.NewTables.{New}
 use Rattle.allocation.specs.Growth.{Growth, pointed, addBlock}
@@ -25,7 +25,7 @@ use Rattle.allocation.specs.Ready.{Ready}
 use Rattle.allocation.specs.Steps.{Choosable, SameFiles, Written, Extended, Made}
 use Rattle.allocation.specs.Held.{Held, Ends, nothing}
 use Rattle.allocation.specs.Lengthened.{Lengthened}
-use Rattle.allocation.specs.Files.{Provided, started, created, putLength, grown}
+use Rattle.allocation.specs.MadeFiles.{Provided, started, created, putChange, grown}
 use Rattle.allocation.proofs.TurnLaws.{turn-none, turn-step}
 use Rattle.allocation.proofs.PlanLaws.{push-cases, push-from, stock-free, stock-taken}
 use Rattle.allocation.proofs.TakenLaws.{length-putBlock, block-files}
@@ -33,7 +33,7 @@ use Rattle.allocation.proofs.TakenHeld.{new-run, taken-ends}
 use Rattle.allocation.proofs.ChainedLaws.{head-free}
 use Rattle.allocation.proofs.ChangeLaws.{used-not}
 use Rattle.allocation.proofs.EndsLaws.{end-file, end-some}
-use Rattle.allocation.proofs.ReadyLaws.{Taking, add-is, laid-is, here-is, further-is, pointed-here, pointed-further, here-written, first-free, further-extended, step-taking, ready-step}
+use Rattle.allocation.proofs.ReadyLaws.{Taking, add-is, laid-is, here-is, further-is, pointed-joined, pointed-beside, pointed-further, here-written, first-free, further-extended, step-taking, ready-step}
 use Rattle.allocation.proofs.AddHeld.{add-held}
 use Rattle.allocation.proofs.FileLaws.{provided-head, started-made, ready-start, ready-grow}
 use Rattle.allocation.proofs.RestatedLaws.{Restated}
@@ -70,7 +70,7 @@ module _ (p : Places) (f t : ℕ) (ts : List ℕ) (g : Growth) (ready : Ready p 
   c = g .cursor
 
   abbrev s : ℕ
-  s = sectorOf t k
+  s = blockStart t k
 
   abbrev n : ℕ
   n = blockOf t
@@ -83,28 +83,25 @@ module _ (p : Places) (f t : ℕ) (ts : List ℕ) (g : Growth) (ready : Ready p 
 
   -- other files
   module _ (own : Owned p f g) where
-    abbrev l : Tail
-    l = push (g .cursor .tail) (sectorOf t k) (blockOf t)
-
-    taking : Taking p f b c l ts
-    taking = step-taking p f g t ts ready
+    abbrev r : Pushed
+    r = push (g .cursor .tail) (blockStart t k) (blockOf t)
 
     own-taken : fileOf (c .table .0) (tableAt p b (c .table .0)) ≡ f
     own-taken = ap (fileOf (c .table .0)) (files .table (c .table .0) (ready .low) (ready .high)) ∙ own
 
-    pointed-untouched : Untouched v (viewOf p (pointed p f b c l .books)) f × Owned p f (pointed p f b c l)
-    pointed-untouched = elim (ℕ-discrete (l .tables) (c .tail .tables)) [
-      | yes e ↦ rw (pointed-here p f b c l e, here-is p f b c l) (here (here-written p f b c l ts taking))
-      | no ne ↦ rw (pointed-further p f b c l ne, further-is p f b c l) (there (further-extended p f b c l ts taking ne) (first-free p f b c l ts taking ne))
-    ]
+    pointed-untouched : Untouched v (viewOf p (pointed p f b c r .books)) f × Owned p f (pointed p f b c r)
+    pointed-untouched = go r (step-taking p f g t ts ready) (push-from (c .tail) s n (ready .tail .from))
       where
-        here : {v' : View} → Written v v' (c .table .0) (l .at) (l .last) → Untouched v v' f × (fileOf (c .table .0) (v' .table (c .table .0)) ≡ f)
-        here {v'} w =
-            let behind : 8 ≤ l .at = omega (arith, push-from (c .tail) s n (ready .from)) in
-            (written-untouched v v' f _ _ _ w behind own-taken, written-own v v' f _ _ _ w behind own-taken)
+        here : {v' : View} (l : Tail) → 22 ≤ placeOf l → Written v v' (c .table .0) (placeOf l) (l .last) → Untouched v v' f × (fileOf (c .table .0) (v' .table (c .table .0)) ≡ f)
+        here {v'} l from w = (written-untouched v v' f _ _ _ w (omega arith) own-taken, written-own v v' f _ _ _ w (omega arith) own-taken)
 
-        there : {v' : View} → Extended v v' f (c .table .0) (l .last) → Free v (firstFreeOf b) → Untouched v v' f × (fileOf (firstFreeOf b) (v' .table (firstFreeOf b)) ≡ f)
-        there {v'} w h = (extended-untouched v v' f _ _ w (ready .layout .few) h own-taken, extended-own v v' f _ _ w (ready .layout .few) h own-taken)
+        there : {v' : View} (l : Tail) → Extended v v' f (c .table .0) (l .last) → Free v (firstFreeOf b) → Untouched v v' f × (fileOf (firstFreeOf b) (v' .table (firstFreeOf b)) ≡ f)
+        there {v'} l w h = (extended-untouched v v' f _ _ w (ready .layout .few) h own-taken, extended-own v v' f _ _ w (ready .layout .few) h own-taken)
+
+        go : (q : Pushed) → Taking p f b c q ts → 22 ≤ placeOf (tailOf q) → Untouched v (viewOf p (pointed p f b c q .books)) f × Owned p f (pointed p f b c q)
+        go (Joined l) h from = rw (pointed-joined p f b c l, here-is p f b c l) (here l from (here-written p f b c (Joined l) ts h))
+        go (Beside l) h from = rw (pointed-beside p f b c l, here-is p f b c l) (here l from (here-written p f b c (Beside l) ts h))
+        go (Further l) h from = rw (pointed-further p f b c l, further-is p f b c l) (there l (further-extended p f b c l ts h) (first-free p f b c l ts h))
 
     add-untouched : Untouched (viewOf p (g .books)) (viewOf p (addBlock p f t g .books)) f × Owned p f (addBlock p f t g)
     add-untouched = rw (add-is p f t g, laid-is p f t k g)
@@ -119,26 +116,25 @@ module _ (p : Places) (f t : ℕ) (ts : List ℕ) (g : Growth) (ready : Ready p 
     sized j = length-table p b j (rw (length-putBlock p (g .books) t k) (ready .layout))
 
     -- in the last pointer; there is one, since no sector of a block is 0
-    joined : c .tail .last .start .0 + c .tail .last .count ≡ s → Taking p f b c (longer (c .tail) n) ts → FileFollows v (viewOf p (pointed p f b c (longer (c .tail) n) .books)) f
+    joined : c .tail .last .start .0 + c .tail .last .count ≡ s → Taking p f b c (Joined (longer (c .tail) n)) ts → FileFollows v (viewOf p (pointed p f b c (Joined (longer (c .tail) n)) .books)) f
     joined e h =
-        let r = longer (g .cursor .tail) n in
+        let l = longer (g .cursor .tail) n in
         let run = new-run can (stock-taken p (g .books) t ts (ready .layout) (ready .stocked)) in
         let some = end-some v f c block-ends (omega (arith, run .low)) in
-        rw (pointed-here p f b c r refl, here-is p f b c r) (joined-follows v _ f c (ready .layout .few) sized block-ends n some (here-written p f b c r ts h))
+        rw (pointed-joined p f b c l, here-is p f b c l) (joined-follows v _ f c (ready .layout .few) sized block-ends n some (here-written p f b c (Joined l) ts h))
 
     -- in a pointer of its own beside it
-    stood : c .tail .at + 12 ≤ 124 → Taking p f b c (beside (c .tail) s n) ts → FileFollows v (viewOf p (pointed p f b c (beside (c .tail) s n) .books)) f
+    stood : c .tail .slot < c .tail .capacity → Taking p f b c (Beside (beside (c .tail) s n)) ts → FileFollows v (viewOf p (pointed p f b c (Beside (beside (c .tail) s n)) .books)) f
     stood room h =
-        let r = beside (g .cursor .tail) s n in
-        rw (pointed-here p f b c r refl, here-is p f b c r) (beside-follows v _ f c (ready .layout .few) sized block-ends _ (here-written p f b c r ts h) room)
+        let l = beside (g .cursor .tail) s n in
+        rw (pointed-beside p f b c l, here-is p f b c l) (beside-follows v _ f c (ready .layout .few) sized block-ends _ (here-written p f b c (Beside l) ts h) room)
 
     -- in a further child's first one
-    chained : Taking p f b c (further (c .tail) s n) ts → FileFollows v (viewOf p (pointed p f b c (further (c .tail) s n) .books)) f
+    chained : Taking p f b c (Further (further (c .tail) s n)) ts → FileFollows v (viewOf p (pointed p f b c (Further (further (c .tail) s n)) .books)) f
     chained h =
-        let r = further (g .cursor .tail) s n in
-        let more : r .tables ≢ c .tail .tables = λ e. omega arith in
-        rw (pointed-further p f b c r more, further-is p f b c r)
-        (extended-follows v _ f c (ready .layout .few) sized block-ends _ (further-extended p f b c r ts h more) (first-free p f b c r ts h more))
+        let l = further (g .cursor .tail) s n in
+        rw (pointed-further p f b c l, further-is p f b c l)
+        (extended-follows v _ f c (ready .layout .few) sized block-ends _ (further-extended p f b c l ts h) (first-free p f b c l ts h))
 
     add-follows : FileFollows (viewOf p (g .books)) (viewOf p (addBlock p f t g .books)) f
     add-follows = rw (add-is p f t g, laid-is p f t k g)
@@ -183,7 +179,7 @@ module _ (p : Places) (b : List ℕ) (f : ℕ) (counts : List ℕ) (long : ℕ) 
   lengthened : Lengthened p f begun grew (inOrder counts)
   lengthened = grown-lengthened p b f counts has parent
 
-  restated : Restated (viewOf p (grew .books)) (viewOf p (putLength p (grew .books) f long date)) f
+  restated : Restated (viewOf p (grew .books)) (viewOf p (putChange p (grew .books) f long date)) f
   restated = length-resized p (grew .books) f long date (rw (lengthened .quiet .len) (has .layout)) (parent .low) (parent .high) six .restated
 
   pub grown-untouched : Untouched (viewOf p b) (viewOf p (grown p b f counts long date)) f

@@ -1,4 +1,4 @@
--- One step of a growing file, as the view shows it: the tables of other files stay, and the file's own sectors stay at their places. Assumes nothing.
+-- One step of a growing file, as the view shows it: the tables of other files stay, and the file's own sectors stay at their places.
 use mathlib.Core.Path.{_≡_, sym, _∙_}
 use mathlib.Core.Logic.{_≢_, inl, inr}
 use mathlib.Core.List.{List}
@@ -9,17 +9,17 @@ use lib.ListN.{length}
 use Rattle.field.specs.Kept.{Kept}
 use Rattle.field.proofs.NumberLaws.{kept-putU32}
 use Rattle.tables.specs.declared.index.Pointer.{Pointer}
-use Rattle.tables.specs.Indexes.{linkOf, slotsOf, baseOf, startOf, countOf, Used, fileOf}
+use Rattle.tables.specs.Indexes.{linkOf, slotsOf, baseOf, startOf, countOf, Used, fileOf, pointerPlace}
 use Rattle.tables.specs.Views.{View, Free}
-use Rattle.tables.proofs.IndexLaws.{slots-in, file-parent}
+use Rattle.tables.proofs.IndexLaws.{slots-in, file-parent, base-low}
 use Rattle.allocation.specs.declared.growth.Cursor.{Cursor}
 use Rattle.allocation.specs.NewTables.{New}
 use Rattle.allocation.specs.Steps.{SameFiles, Written, Extended, Made, withPointer}
+use Rattle.allocation.specs.NextPointer.{placeOf}
 use Rattle.allocation.specs.Held.{Ends}
-use Rattle.allocation.proofs.LastLaws.{base-low}
 use Rattle.allocation.proofs.PointerBytes.{slots-kept, file-kept, start-kept, count-kept, kept-pointer, parent-word, start-others, count-others, start-slot, count-slot}
 use Rattle.allocation.proofs.ChangeLaws.{free-file}
-use Rattle.allocation.proofs.EndsLaws.{end-begins, end-link, end-more, last-place, last-start, last-count}
+use Rattle.allocation.proofs.EndsLaws.{end-begins, end-link, end-more, last-place, last-start, last-count, next-place}
 use Rattle.allocation.proofs.ExtendedHeld.{new-file}
 use Rattle.files.specs.Unchanged.{Untouched}
 use Rattle.files.proofs.UntouchedLaws.{step-untouched}
@@ -32,15 +32,15 @@ module _ (v v' : View) (f : ℕ) where
   files-untouched h = step-untouched v v' f (h .indexes) (λ j lo hi. inl (h .table j lo hi))
 
   -- a pointer in a table of the file
-  module _ (i at : ℕ) (q : Pointer) (w : Written v v' i at q) (behind : 8 ≤ at) (own : fileOf i (v .table i) ≡ f) where
+  module _ (i at : ℕ) (q : Pointer) (w : Written v v' i at q) (past : 8 ≤ at) (own : fileOf i (v .table i) ≡ f) where
     pub written-own : fileOf i (v' .table i) ≡ f
-    written-own = rw (w .here) (file-kept i (kept-pointer (v .table i) at q) behind ∙ own)
+    written-own = rw (w .here) (file-kept i (kept-pointer (v .table i) at q) past ∙ own)
 
     pub written-untouched : Untouched v v' f
     written-untouched = step-untouched v v' f (w .indexes)
         (λ j lo hi. elim (ℕ-discrete j i) [ yes e ↦ rw e (inr (inr own, written-own)) | no ne ↦ inl (w .there j lo hi ne) ])
 
-  -- a further child behind a table of the file
+  -- a further child after a table of the file
   module _ (i : ℕ) (q : Pointer) (w : Extended v v' f i q) (few : v .indexes ≤ 4096) (free : Free v (v .head)) (own : fileOf i (v .table i) ≡ f) where
     pub extended-own : fileOf (v .head) (v' .table (v .head)) ≡ f
     extended-own = rw (w .new) (new-file (v .head) f q (free .low) (omega (arith, free .high)))
@@ -66,14 +66,14 @@ module _ (v v' : View) (n : New) (s d : ℕ) (w : Made v v' n s d) (free : Free 
 
 -- ---- the file's own tables
 
--- pointer j of table i, behind which none is used and no table follows, becomes q: if it was used it has its start, and no fewer sectors
+-- pointer j of table i, after which none is used and no table follows, becomes q: if it was used it has its start, and no fewer sectors
 module _ (i at j : ℕ) (t t' : List ℕ) (q : Pointer) (is : t' ≡ withPointer t at q) (place : at ≡ baseOf i t + 6 * j) (size : length t ≡ 128) (slot : j < slotsOf i t)
     (last : linkOf t ≡ 0) (after : j + 1 < slotsOf i t → Used i t (j + 1) → ⊥) (old : Used i t j → (startOf i t j ≡ q .start .0) × (countOf i t j ≤ q .count)) where
   kept : Kept t t' at 6
   kept = rw is (kept-pointer t at q)
 
-  behind : 8 ≤ at
-  behind = omega (arith, base-low i t)
+  past : 8 ≤ at
+  past = omega (arith, base-low i t)
 
   others : (n : ℕ) → n ≢ j → countOf i t' n ≡ countOf i t n
   others = count-others i at j t t' q is place
@@ -85,8 +85,8 @@ module _ (i at j : ℕ) (t t' : List ℕ) (q : Pointer) (is : t' ≡ withPointer
 
   pointer-follows : Follows i t t'
   pointer-follows = record {
-    file = file-kept i kept behind;
-    slots = slots-kept i kept behind;
+    file = file-kept i kept past;
+    slots = slots-kept i kept past;
     link = λ nz. absurd (nz last);
     start = λ n l u. elim (ℕ-discrete n j) [ yes e ↦ rw e (start-slot i at j t t' q is place size slot ∙ sym (old (rw e at u) .0)) | no ne ↦ start-others i at j t t' q is place n ne ];
     count = λ n l. elim (ℕ-discrete n j) [ yes e ↦ rw e here | no ne ↦ omega (arith, others n ne) ];
@@ -114,16 +114,17 @@ module _ (v v' : View) (f : ℕ) (c : Cursor) (few : v .indexes ≤ 4096) (sized
       }
 
   -- the last pointer has n sectors more
-  pub joined-follows : (n : ℕ) → 1 ≤ e .slot → Written v v' i (c .tail .at) (record { start = c .tail .last .start; count = c .tail .last .count + n }) → FileFollows v v' f
+  pub joined-follows : (n : ℕ) → 1 ≤ c .tail .slot → Written v v' i (placeOf (c .tail)) (record { start = c .tail .last .start; count = c .tail .last .count + n }) → FileFollows v v' f
   joined-follows n some w =
-      written-follows (c .tail .at) (e .slot - 1) _ w (omega (arith, e .within)) (last-place v f c e some) (λ l u. e .unused (e .slot - 1 + 1) l (omega arith) u)
+      written-follows (placeOf (c .tail)) (c .tail .slot - 1) _ w (omega (arith, e .within, e .capacity)) (last-place v f c e some) (λ l u. e .unused (c .tail .slot - 1 + 1) l (omega arith) u)
       (λ u. (last-start v f c e some, omega (arith, last-count v f c e some)))
 
-  -- a pointer of its own stands behind it
-  pub beside-follows : (q : Pointer) → Written v v' i (c .tail .at + 6) q → c .tail .at + 12 ≤ 124 → FileFollows v v' f
+  -- a pointer of its own stands after it
+  pub beside-follows : (q : Pointer) → Written v v' i (pointerPlace (c .tail .capacity) (c .tail .slot + 1)) q → c .tail .slot < c .tail .capacity → FileFollows v v' f
   beside-follows q w room =
-      let slot = end-more v few f c e room in
-      written-follows (c .tail .at + 6) (e .slot) q w slot (e .place) (λ l u. e .unused (e .slot + 1) l (omega arith) u) (λ u. absurd (e .unused (e .slot) slot (omega arith) u))
+      let slot = end-more v f c e room in
+      written-follows (pointerPlace (c .tail .capacity) (c .tail .slot + 1)) (c .tail .slot) q w slot (next-place v f c e room) (λ l u. e .unused (c .tail .slot + 1) l (omega arith) u)
+      (λ u. absurd (e .unused (c .tail .slot) slot (omega arith) u))
 
   -- a further child has it
   pub extended-follows : (q : Pointer) → Extended v v' f i q → Free v (v .head) → FileFollows v v' f

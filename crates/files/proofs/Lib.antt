@@ -1,7 +1,7 @@
 pub mod FileTables
 pub mod SpotLaws
 pub mod SeekLaws
-pub mod PlaceLaws
+pub mod SectorPlaceLaws
 pub mod MoveLaws
 pub mod SectorLaws
 pub mod FreedBytes
@@ -13,6 +13,7 @@ pub mod FreedRules
 pub mod RecountView
 pub mod RecountRules
 pub mod ReleasedLawful
+pub mod RecountLaws
 pub mod ReleaseLaws
 pub mod FollowLaws
 pub mod UntouchedLaws

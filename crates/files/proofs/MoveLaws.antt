@@ -1,4 +1,4 @@
--- Sectors moved: what the body and the output hold then, byte by byte. Assumes nothing.
+-- Sectors moved: what the body and the output hold then, byte by byte.
 use mathlib.Core.Path.{_≡_, refl, sym, ap, _∙_}
 use mathlib.Core.Logic.{_≢_, inl, inr, ⊎-elim}
 use mathlib.Core.Bool.{Bool, true, false}
@@ -9,7 +9,6 @@ use native.Mathlib.Decide.{ℕ-discrete, decLt}
 use native.Mathlib.Omega.{arith}
 use lib.ListN.{length, getD, take, drop, length-take, length-drop}
 use lib.Seq.{ext-getD, getD-take, length-take-le}
-use Rattle.field.specs.Parts.{over}
 use Rattle.field.specs.Kept.{Kept, Apart}
 use Rattle.field.proofs.NumberLaws.{getD-part}
 use Rattle.field.proofs.PartLaws.{length-over, kept-over, over-part}
@@ -18,9 +17,9 @@ use Rattle.tables.specs.Places.{Layout}
 use Rattle.tables.specs.Lawful.{Lawful}
 use Rattle.tables.specs.Views.{viewOf}
 use Rattle.files.specs.Spots.{kthSector}
-use Rattle.files.specs.Moves.{exchanged, moved, bodyPlace, sectorContent, piece, filled, fetched, Movable}
+use Rattle.files.specs.Moves.{exchanged, moved, bodyPlace, sectorContent, bufferSector, sectorsLaid, filled, fetched, Movable}
 use Rattle.files.proofs.SpotLaws.{kth-inside}
-use Rattle.files.proofs.PlaceLaws.{place-one}
+use Rattle.files.proofs.SectorPlaceLaws.{place-one}
 
 -- ---- byte pairs exchanged
 
@@ -64,35 +63,30 @@ sectors-apart s t ne = elim (decLt s t) [ yes l ↦ inl (omega arith) | no g ↦
     other : (s < t → ⊥) → t < s
     other g = elim (decLt t s) [ yes l ↦ l | no h ↦ absurd (ne (omega arith)) ]
 
--- n sectors laid over xs: the i-th is `part i`, and it is laid at the sector `at i`
-laid : (ℕ → ℕ) → (ℕ → List ℕ) → List ℕ → ℕ → List ℕ
-laid at part xs zero = xs
-laid at part xs (suc n) = over (laid at part xs n) (1024 * at n) (part n)
-
 module _ (at : ℕ → ℕ) (part : ℕ → List ℕ) (xs : List ℕ) (n : ℕ) (whole : (i : ℕ) → i < n → length (part i) ≡ 1024)
     (fits : (i : ℕ) → i < n → 1024 * at i + 1024 ≤ length xs) where
-  length-laid : (j : ℕ) → j ≤ n → length (laid at part xs j) ≡ length xs
-  unfolding laid
+  length-laid : (j : ℕ) → j ≤ n → length (sectorsLaid at part xs j) ≡ length xs
+  unfolding sectorsLaid
   length-laid zero h = refl
   length-laid (suc j) h =
       let e = length-laid j (omega arith) in
-      length-over (laid at part xs j) (1024 * at j) (part j) (omega (arith, e, whole j (omega arith), fits j (omega arith))) ∙ e
+      length-over (sectorsLaid at part xs j) (1024 * at j) (part j) (omega (arith, e, whole j (omega arith), fits j (omega arith))) ∙ e
 
-  kept-laid : (j : ℕ) → j < n → Kept (laid at part xs j) (laid at part xs (suc j)) (1024 * at j) 1024
-  unfolding laid
+  kept-laid : (j : ℕ) → j < n → Kept (sectorsLaid at part xs j) (sectorsLaid at part xs (suc j)) (1024 * at j) 1024
+  unfolding sectorsLaid
   kept-laid j h =
-      rw (whole j h) at (kept-over (laid at part xs j) (1024 * at j) (part j) (omega (arith, length-laid j (omega arith), whole j h, fits j h)))
+      rw (whole j h) at (kept-over (sectorsLaid at part xs j) (1024 * at j) (part j) (omega (arith, length-laid j (omega arith), whole j h, fits j h)))
 
-  laid-out : (j : ℕ) → j ≤ n → (s : ℕ) → ((i : ℕ) → i < j → at i ≢ s) → take 1024 (drop (1024 * s) (laid at part xs j)) ≡ take 1024 (drop (1024 * s) xs)
-  unfolding laid
+  laid-out : (j : ℕ) → j ≤ n → (s : ℕ) → ((i : ℕ) → i < j → at i ≢ s) → take 1024 (drop (1024 * s) (sectorsLaid at part xs j)) ≡ take 1024 (drop (1024 * s) xs)
+  unfolding sectorsLaid
   laid-out zero h s out = refl
   laid-out (suc j) h s out =
       part-kept (1024 * s) 1024 (kept-laid j (omega arith)) (sectors-apart s (at j) (λ e. out j (omega arith) (sym e)))
       ∙ laid-out j (omega arith) s (λ i l. out i (omega arith))
 
   laid-in : (j : ℕ) → j ≤ n → ((i : ℕ) → i < n → (k : ℕ) → k < n → at i ≡ at k → i ≡ k) → (i : ℕ) → i < j
-      → take 1024 (drop (1024 * at i) (laid at part xs j)) ≡ part i
-  unfolding laid
+      → take 1024 (drop (1024 * at i) (sectorsLaid at part xs j)) ≡ part i
+  unfolding sectorsLaid
   laid-in zero h once i l = absurd (not-suc-le-zero l)
   laid-in (suc j) h once i l = elim (ℕ-discrete i j) [
     | yes e ↦ rw e (last (omega arith))
@@ -100,25 +94,25 @@ module _ (at : ℕ → ℕ) (part : ℕ → List ℕ) (xs : List ℕ) (n : ℕ) 
         ∙ laid-in j (omega arith) once i (omega arith)
   ]
     where
-      last : j < n → take 1024 (drop (1024 * at j) (laid at part xs (suc j))) ≡ part j
-      last l = rw (whole j l) at (over-part (laid at part xs j) (1024 * at j) (part j) (omega (arith, length-laid j (omega arith), whole j l, fits j l)))
+      last : j < n → take 1024 (drop (1024 * at j) (sectorsLaid at part xs (suc j))) ≡ part j
+      last l = rw (whole j l) at (over-part (sectorsLaid at part xs j) (1024 * at j) (part j) (omega (arith, length-laid j (omega arith), whole j l, fits j l)))
 
 -- a buffer's n-th 1,024 bytes are as many, if it is long enough
-pub length-piece : (s : List ℕ) (i n : ℕ) → 1024 * n ≤ length s → i < n → length (piece s i) ≡ 1024
-length-piece s i n h l = length-take-le 1024 (drop (1024 * i) s) (omega (arith, length-drop (1024 * i) s))
+pub length-buffer : (s : List ℕ) (i n : ℕ) → 1024 * n ≤ length s → i < n → length (bufferSector s i) ≡ 1024
+length-buffer s i n h l = length-take-le 1024 (drop (1024 * i) s) (omega (arith, length-drop (1024 * i) s))
 
--- buffers with the same pieces
-pieces-same : (s t : List ℕ) (n : ℕ) → 1024 * n ≤ length s → 1024 * n ≤ length t → ((i : ℕ) → i < n → piece s i ≡ piece t i) → take (1024 * n) s ≡ take (1024 * n) t
-pieces-same s t n hs ht same =
+-- buffers with the same sectors
+sectors-same : (s t : List ℕ) (n : ℕ) → 1024 * n ≤ length s → 1024 * n ≤ length t → ((i : ℕ) → i < n → bufferSector s i ≡ bufferSector t i) → take (1024 * n) s ≡ take (1024 * n) t
+sectors-same s t n hs ht same =
     ext-getD 0 (take (1024 * n) s) (take (1024 * n) t) (length-take-le (1024 * n) s hs ∙ sym (length-take-le (1024 * n) t ht))
     (λ j l. byte j (omega (arith, length-take-le (1024 * n) s hs)))
   where
-    in-piece : (u : List ℕ) (j : ℕ) → getD u j 0 ≡ getD (piece u (j / 1024)) (j % 1024) 0
-    in-piece u j = sym (getD-part u (1024 * (j / 1024)) 1024 (j % 1024) (omega arith) ∙ ap (λ (o : ℕ). getD u o 0) (let e : 1024 * (j / 1024) + j % 1024 ≡ j = omega arith in e))
+    in-sector : (u : List ℕ) (j : ℕ) → getD u j 0 ≡ getD (bufferSector u (j / 1024)) (j % 1024) 0
+    in-sector u j = sym (getD-part u (1024 * (j / 1024)) 1024 (j % 1024) (omega arith) ∙ ap (λ (o : ℕ). getD u o 0) (let e : 1024 * (j / 1024) + j % 1024 ≡ j = omega arith in e))
 
     byte : (j : ℕ) → j < 1024 * n → getD (take (1024 * n) s) j 0 ≡ getD (take (1024 * n) t) j 0
     byte j l =
-        getD-take (1024 * n) s j 0 l ∙ in-piece s j ∙ ap (λ (u : List ℕ). getD u (j % 1024) 0) (same (j / 1024) (omega arith)) ∙ sym (in-piece t j)
+        getD-take (1024 * n) s j 0 l ∙ in-sector s j ∙ ap (λ (u : List ℕ). getD u (j % 1024) 0) (same (j / 1024) (omega arith)) ∙ sym (in-sector t j)
         ∙ sym (getD-take (1024 * n) t j 0 l)
 
 -- ---- the file's sectors in the body
@@ -141,35 +135,33 @@ module _ (p : Places) (b : List ℕ) (lay : Layout p (length b)) (lawful : Lawfu
   abbrev place : ℕ → ℕ
   place i = kthSector (viewOf p b) f (k + i) - 1024
 
-  whole-in : (i : ℕ) → i < n → length (moved x (piece input i)) ≡ 1024
-  whole-in i l = length-moved x (piece input i) ∙ length-piece input i n (m .buffer) l
+  whole-in : (i : ℕ) → i < n → length (moved x (bufferSector input i)) ≡ 1024
+  whole-in i l = length-moved x (bufferSector input i) ∙ length-buffer input i n (m .buffer) l
 
-  filled-laid : (j : ℕ) → filled (viewOf p b) f k x input body j ≡ laid place (λ i. moved x (piece input i)) body j
-  unfolding filled laid
-  filled-laid zero = refl
-  filled-laid (suc j) = ap (λ (y : List ℕ). over y (1024 * place j) (moved x (piece input j))) (filled-laid j)
+  abbrev given : ℕ → List ℕ
+  given i = moved x (bufferSector input i)
 
   fits-in : (i : ℕ) → i < n → 1024 * place i + 1024 ≤ length body
   fits-in = sector-fits p b lay lawful f k n (length input) (length body) m
 
   pub length-filled : length (filled (viewOf p b) f k x input body n) ≡ length body
-  length-filled = ap length (filled-laid n) ∙ length-laid place _ body n whole-in fits-in n (omega arith)
+  unfolding filled
+  length-filled = length-laid place given body n whole-in fits-in n (omega arith)
 
   -- the i-th written sector holds the i-th 1,024 bytes of the input, exchanged if asked
-  pub filled-in : (i : ℕ) → i < n → sectorContent (filled (viewOf p b) f k x input body n) (kthSector (viewOf p b) f (k + i)) ≡ moved x (piece input i)
-  filled-in i l =
-      ap (λ (y : List ℕ). take 1024 (drop (1024 * place i) y)) (filled-laid n)
-      ∙ laid-in place (λ i. moved x (piece input i)) body n whole-in fits-in n (omega arith) (sector-once p b lay lawful f k n (length input) (length body) m) i l
+  pub filled-in : (i : ℕ) → i < n → sectorContent (filled (viewOf p b) f k x input body n) (kthSector (viewOf p b) f (k + i)) ≡ moved x (bufferSector input i)
+  unfolding filled
+  filled-in i l = laid-in place given body n whole-in fits-in n (omega arith) (sector-once p b lay lawful f k n (length input) (length body) m) i l
 
   -- any other sector's bytes are as they were
   pub filled-out : (s : ℕ) → 1024 ≤ s → s < 1024 * (p .zones - 1) → ((i : ℕ) → i < n → kthSector (viewOf p b) f (k + i) ≢ s)
       → sectorContent (filled (viewOf p b) f k x input body n) s ≡ sectorContent body s
+  unfolding filled
   filled-out s low high out =
-      ap (λ (y : List ℕ). take 1024 (drop (1024 * (s - 1024)) y)) (filled-laid n)
-      ∙ laid-out place (λ i. moved x (piece input i)) body n whole-in fits-in n (omega arith) (s - 1024)
+      laid-out place given body n whole-in fits-in n (omega arith) (s - 1024)
       (λ i l e. out i l (omega (arith, e, sector-inside p b lay lawful f k n (length input) (length body) m i l .0)))
 
--- the output holds the sectors' bytes, one behind the other, and is as it was past them
+-- the output holds the sectors' bytes, one after the other, and is as it was past them
 module _ (p : Places) (b : List ℕ) (lay : Layout p (length b)) (lawful : Lawful p b) (f k n : ℕ) (x : Bool) (body out : List ℕ)
     (m : Movable (viewOf p b) f k n (length out) (length body)) where
   abbrev taken : ℕ → List ℕ
@@ -181,26 +173,22 @@ module _ (p : Places) (b : List ℕ) (lay : Layout p (length b)) (lawful : Lawfu
       ∙ length-take-le 1024 (drop (bodyPlace (kthSector (viewOf p b) f (k + i))) body)
       (omega (arith, sector-fits p b lay lawful f k n (length out) (length body) m i l, length-drop (bodyPlace (kthSector (viewOf p b) f (k + i))) body))
 
-  fetched-laid : (j : ℕ) → fetched (viewOf p b) f k x body out j ≡ laid (λ i. i) taken out j
-  unfolding fetched laid
-  fetched-laid zero = refl
-  fetched-laid (suc j) = ap (λ (y : List ℕ). over y (1024 * j) (taken j)) (fetched-laid j)
-
   fits-out : (i : ℕ) → i < n → 1024 * i + 1024 ≤ length out
   fits-out i l = omega (arith, m .buffer)
 
   pub length-fetched : length (fetched (viewOf p b) f k x body out n) ≡ length out
-  length-fetched = ap length (fetched-laid n) ∙ length-laid (λ i. i) taken out n whole-out fits-out n (omega arith)
+  unfolding fetched
+  length-fetched = length-laid (λ i. i) taken out n whole-out fits-out n (omega arith)
 
-  pub fetched-in : (i : ℕ) → i < n → piece (fetched (viewOf p b) f k x body out n) i ≡ moved x (sectorContent body (kthSector (viewOf p b) f (k + i)))
-  fetched-in i l =
-      ap (λ (y : List ℕ). piece y i) (fetched-laid n) ∙ laid-in (λ i. i) taken out n whole-out fits-out n (omega arith) (λ i l j h e. e) i l
+  pub fetched-in : (i : ℕ) → i < n → bufferSector (fetched (viewOf p b) f k x body out n) i ≡ moved x (sectorContent body (kthSector (viewOf p b) f (k + i)))
+  unfolding fetched
+  fetched-in i l = laid-in (λ i. i) taken out n whole-out fits-out n (omega arith) (λ i l j h e. e) i l
 
   pub fetched-out : (j : ℕ) → 1024 * n ≤ j → getD (fetched (viewOf p b) f k x body out n) j 0 ≡ getD out j 0
-  unfolding laid
-  fetched-out j l = ap (λ (y : List ℕ). getD y j 0) (fetched-laid n) ∙ past n (omega arith)
+  unfolding fetched sectorsLaid
+  fetched-out j l = past n (omega arith)
     where
-      past : (i : ℕ) → i ≤ n → getD (laid (λ i. i) taken out i) j 0 ≡ getD out j 0
+      past : (i : ℕ) → i ≤ n → getD (sectorsLaid (λ i. i) taken out i) j 0 ≡ getD out j 0
       past zero h = refl
       past (suc i) h = kept-laid (λ i. i) taken out n whole-out fits-out i (omega arith) .out j (inr (omega arith)) ∙ past i (omega arith)
 
@@ -209,8 +197,8 @@ pub read-back : (p : Places) (b : List ℕ) → Layout p (length b) → Lawful p
     → Movable (viewOf p b) f k n (length input) (length body) → 1024 * n ≤ length out
     → take (1024 * n) (fetched (viewOf p b) f k x (filled (viewOf p b) f k x input body n) out n) ≡ take (1024 * n) input
 read-back p b lay lawful f k n x input body out m room =
-    pieces-same (fetched (viewOf p b) f k x (filled (viewOf p b) f k x input body n) out n) input n (omega (arith, length-fetched p b lay lawful f k n x (filled (viewOf p b) f k x input body n) out m')) (m .buffer)
-    (λ i l. fetched-in p b lay lawful f k n x (filled (viewOf p b) f k x input body n) out m' i l ∙ ap (moved x) (filled-in p b lay lawful f k n x input body m i l) ∙ moved-twice x (piece input i))
+    sectors-same (fetched (viewOf p b) f k x (filled (viewOf p b) f k x input body n) out n) input n (omega (arith, length-fetched p b lay lawful f k n x (filled (viewOf p b) f k x input body n) out m')) (m .buffer)
+    (λ i l. fetched-in p b lay lawful f k n x (filled (viewOf p b) f k x input body n) out m' i l ∙ ap (moved x) (filled-in p b lay lawful f k n x input body m i l) ∙ moved-twice x (bufferSector input i))
   where
     m' : Movable (viewOf p b) f k n (length out) (length (filled (viewOf p b) f k x input body n))
     m' = record { parent = m .parent; some = m .some; within = m .within; buffer = room; body' = length-filled p b lay lawful f k n x input body m ∙ m .body' }

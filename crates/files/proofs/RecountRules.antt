@@ -1,16 +1,16 @@
--- With the zone entries counted again all rules hold. Assumes nothing.
+-- With the freed blocks counted in the zone entries all rules hold.
 use mathlib.Core.Path.{_≡_, refl, sym, _∙_}
 use mathlib.Core.Logic.{_⊎_, inl, inr, ⊎-elim}
 use Prim.Native.Nat.{ℕ, _+_, _-_, _*_, _≤_, _<_}
-use native.Mathlib.Decide.{ℕ-discrete}
+use native.Mathlib.Decide.{ℕ-discrete, decLt}
 use native.Mathlib.Omega.{arith}
 use borrow.Author.Tests.{eq-eqb, ne-eqb}
 use Rattle.tables.specs.declared.zone.ZoneEntry.{ZoneEntry}
 use Rattle.tables.specs.Kinds.{zoneOf, firstOf}
 use Rattle.tables.specs.Blocks.{blockOf}
-use Rattle.tables.specs.Room.{perZone}
+use Rattle.tables.specs.Blocks.{perZone}
 use Rattle.tables.specs.Views.{View, Parent, overOf, pointersOver, Under}
-use Rattle.tables.specs.Rules.R2.{Reads, ZoneBits, InUse, R2}
+use Rattle.tables.specs.Rules.R2.{Reads, ZoneBits, Untyped, InUse, R2}
 use Rattle.tables.specs.Rules.R3.{R3}
 use Rattle.tables.specs.Rules.R4.{R4}
 use Rattle.tables.specs.Rules.R5.{R5}
@@ -25,7 +25,7 @@ use Rattle.tables.proofs.SameLaws.{blocks-same}
 use Rattle.allocation.proofs.FileSame.{file-same}
 use Rattle.allocation.proofs.ChangeLaws.{parent-under}
 use Rattle.allocation.proofs.TakenHeld.{type-kept, run-kept, files-R4, files-R5, files-tally, files-sectors, files-R9, files-under}
-use Rattle.files.specs.Release.{clearBlocks, recounted}
+use Rattle.files.specs.Release.{recounted}
 use Rattle.files.specs.Freed.{Uncounted, Recounted}
 
 -- rules R2 to R9
@@ -39,43 +39,45 @@ pub record Rules (v : View) : Type 0 where
   pub r8 : R8 v
   pub r9 : R9 v
 
--- ---- an entry counted again
+-- ---- an entry with n blocks freed
 
--- it keeps its type and has n free blocks
+-- it keeps its type and has n free blocks more
 record Stays (e e' : ZoneEntry) (n : ℕ) : Type 0 where
   ztype : e' .ztype ≡ e .ztype
-  free : e' .free ≡ n
-  third : e' .third ≡ 0
+  free : e' .free ≡ e .free + n
+  third : e' .third ≡ e .third
 
 -- it is (0,0,0), where all blocks are free, or stays
-recounted-is : (e : ZoneEntry) (n : ℕ) → e .third ≡ 0 → (Reads (recounted e n) 0 0 0 × (n ≡ perZone (e .ztype))) ⊎ Stays e (recounted e n) n
+recounted-is : (e : ZoneEntry) (n : ℕ) → (Reads (recounted e n) 0 0 0 × (e .free + n ≡ perZone (e .ztype))) ⊎ Stays e (recounted e n) n
 unfolding recounted
-recounted-is e n third =
-    elim (ℕ-discrete n (e .free)) [
-      | yes q ↦ inr (rw (eq-eqb n (e .free) q) (record { ztype = refl; free = sym q; third = third }))
-      | no nq ↦ elim (ℕ-discrete n (perZone (e .ztype))) [
-        | yes q ↦ inl (rw (ne-eqb n (e .free) nq, eq-eqb n (perZone (e .ztype)) q) (record { ztype = refl; free = refl; third = refl }), q)
-        | no nr ↦ inr (rw (ne-eqb n (e .free) nq, ne-eqb n (perZone (e .ztype)) nr) (record { ztype = refl; free = refl; third = refl }))
-      ]
+recounted-is e n =
+    elim (ℕ-discrete (e .free + n) (perZone (e .ztype))) [
+      | yes q ↦ inl (rw (eq-eqb (e .free + n) (perZone (e .ztype)) q) (record { ztype = refl; free = refl; third = refl }), q)
+      | no nq ↦ inr (rw (ne-eqb (e .free + n) (perZone (e .ztype)) nq) (record { ztype = refl; free = refl; third = refl }))
     ]
 
-module _ (v v' : View) (small : (s : ℕ) → v .bit s < 2) (u : Uncounted v) (h : Recounted v v') where
+module _ (v v' : View) (freed : ℕ → ℕ) (small : (s : ℕ) → v .bit s < 2) (u : Uncounted v freed) (h : Recounted v v' freed) where
   -- ---- zones
 
   -- a zone reads (0,0,0) and is clear, or keeps its type
-  zone-now : (z : ℕ) → 2 ≤ z → z < v .zones
-      → (Reads (v' .zone z) 0 0 0 × ZoneBits v z 0) ⊎ (InUse v z × Stays (v .zone z) (v' .zone z) (clearBlocks v z (v .zone z .ztype)))
-  zone-now z lo hi =
-      ⊎-elim (λ o. inl (rw (h .other z (omega arith) (omega arith) (λ t. omega (arith, t .low, o .reads .ztype))) (o .reads), o .clear)) typed
-      (u .r2 z (omega arith) (omega arith) .other lo hi)
+  abbrev Now : ℕ → Type 0
+  Now z = (Reads (v' .zone z) 0 0 0 × ZoneBits v z 0) ⊎ (InUse v z × Stays (v .zone z) (v' .zone z) (freed z))
+
+  zone-now : (z : ℕ) → 2 ≤ z → z < v .zones → Now z
+  zone-now z lo hi = ⊎-elim untyped typed (u .r2 z (omega arith) (omega arith) .other lo hi)
     where
-      typed : InUse v z
-          → (Reads (v' .zone z) 0 0 0 × ZoneBits v z 0) ⊎ (InUse v z × Stays (v .zone z) (v' .zone z) (clearBlocks v z (v .zone z .ztype)))
+      untyped : Untyped v z → Now z
+      untyped o = inl (rw (h .none z hi lo (u .short z hi lo .other (λ t. omega (arith, t .low, o .reads .ztype)))) (o .reads), o .clear)
+
+      typed : InUse v z → Now z
       typed o =
           let t = v .zone z .ztype in
-          rw (h .typed z hi lo (o .typed)) (⊎-elim
-          (λ r. inl (r .0, all-clear (v .bit) (firstOf z) (blockOf t) (block-of t (o .typed)) (record { whole = u .whole z hi lo (o .typed); number = r .1 })))
-          (λ s. inr (o, s)) (recounted-is (v .zone z) (clearBlocks v z t) (o .third)))
+          elim (decLt 0 (freed z)) [
+            | yes l ↦ rw (h .some z hi lo l) (⊎-elim
+                (λ r. inl (r .0, all-clear (v .bit) (firstOf z) (blockOf t) (block-of t (o .typed)) (rw (r .1) at (u .short z hi lo .typed (o .typed)))))
+                (λ s. inr (o, s)) (recounted-is (v .zone z) (freed z)))
+            | no l ↦ (let e : freed z ≡ 0 = omega arith in rw (h .none z hi lo e) (inr (o, record { ztype = refl; free = omega arith; third = refl })))
+          ]
 
   bits-now : (z w : ℕ) → 1 ≤ z → z ≤ v .zones → ZoneBits v z w → ZoneBits v' z w
   bits-now z w lo hi all k l = h .bit (firstOf z + k) (omega arith) ∙ all k l
@@ -88,7 +90,7 @@ module _ (v v' : View) (small : (s : ℕ) → v .bit s < 2) (u : Uncounted v) (h
         first = λ e. (rw (h .zones, e, h .first) (rw e at (o .first e .0)), bits-now z 1 lo hi (o .first e .1));
         last = λ e. (let q = e ∙ h .zones in (rw (q, h .last) (rw q at (o .last q .0)), bits-now z 1 lo hi (o .last q .1)));
         other = λ a c. ⊎-elim (λ r. inl (record { reads = r .0; clear = bits-now z 0 lo hi (r .1) }))
-            (λ r. inr (record { typed = rw (r .1 .ztype) (r .0 .typed); third = r .1 .third })) (zone-now z a (rw (h .zones) at c));
+            (λ r. inr (record { typed = rw (r .1 .ztype) (r .0 .typed); third = r .1 .third ∙ r .0 .third })) (zone-now z a (rw (h .zones) at c));
       }
 
   now-R3 : R3 v'
@@ -96,7 +98,7 @@ module _ (v v' : View) (small : (s : ℕ) → v .bit s < 2) (u : Uncounted v) (h
       let l' : z < v .zones = rw (h .zones) at l in
       ⊎-elim (λ r. absurd (omega (arith, t .low, r .0 .ztype)))
       (λ r. (let y = r .0 .typed in rw (r .1 .ztype) (blocks-same (v .bit) (v' .bit) (firstOf z) (blockOf (v .zone z .ztype)) (block-of _ y) (λ k lk. h .bit _ (omega arith))
-      (v' .zone z .free) (record { whole = u .whole z l' lo y; number = sym (r .1 .free) }))))
+      (v' .zone z .free) (rw (r .1 .free) (u .short z l' lo .typed y)))))
       (zone-now z lo l')
 
   -- ---- runs

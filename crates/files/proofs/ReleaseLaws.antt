@@ -1,135 +1,41 @@
--- A file given back: how the code's loops go on, and each way out of its functions. Assumes nothing.
+-- A file given back: how the loops over its tables go on, and each way out of the functions.
 use mathlib.Core.Path.{_≡_, refl, sym, ap, _∙_}
 use mathlib.Core.Logic.{inl, inr}
 use mathlib.Core.List.{List}
-use Prim.Native.Nat.{ℕ, suc, _+_, _-_, _*_, _/_, _≤_, _<_}
-use native.Mathlib.Nat.{div-eq-of-eq-mul-left}
+use Prim.Native.Nat.{ℕ, suc, _+_, _-_, _*_, _≤_, _<_}
 use native.Mathlib.Numerals.{add-one}
 use native.Mathlib.Decide.{ℕ-discrete}
 use native.Mathlib.Omega.{arith}
 use lib.Dec.{eqb}
-use lib.ListN.{getD, length, replicate}
-use borrow.Author.Tests.{eq-eqb, ne-eqb, le-leb, lt-leb}
+use lib.ListN.{length}
 use Rattle.field.specs.Kept.{Kept}
-use Rattle.field.specs.Numbers.{putU32}
-use Rattle.field.specs.Parts.{over}
-use Rattle.field.specs.Runs.{Room, setBits, countBits}
-use Rattle.field.proofs.BitLaws.{bit-kept, bitAt-lt}
-use Rattle.field.proofs.NumberLaws.{u16-lt, u32-kept}
+use Rattle.field.proofs.NumberLaws.{u32-kept}
 use Rattle.field.proofs.RunLaws.{kept-setBits}
 use Rattle.field.proofs.Sums.{sum-le, sum-part}
 use Rattle.tables.specs.declared.index.Pointer.{Pointer}
 use Rattle.tables.specs.declared.places.Places.{Places}
-use Rattle.tables.specs.declared.zone.ZoneEntry.{ZoneEntry}
-use Rattle.tables.specs.Blocks.{Typed, blockOf, Block, Whole}
-use Rattle.tables.specs.Findings.{Each}
-use Rattle.tables.specs.Indexes.{tableAt, wordOf, linkOf, attributeOf, slotsOf, baseOf, pointerAt}
-use Rattle.tables.specs.Kinds.{firstOf}
+use Rattle.tables.specs.Indexes.{tableAt, erased, wordOf, linkOf, putLink, attributeOf, slotsOf, baseOf, pointerAt, deletedBit}
 use Rattle.tables.specs.Lawful.{Lawful}
 use Rattle.tables.specs.Places.{Layout}
-use Rattle.tables.specs.Room.{perZone}
 use Rattle.tables.specs.Sector1.{deletedOf, freeOf, firstFreeOf}
-use Rattle.tables.specs.Sectors.{sectorAt}
+use Rattle.tables.specs.Sectors.{putSectors}
 use Rattle.tables.specs.Views.{viewOf, Parent, walk, next, tally}
-use Rattle.tables.specs.Zones.{zoneAt, putZone}
 use Rattle.tables.specs.Rules.R5.{FileChain}
 use Rattle.tables.specs.Rules.R6.{R6}
-use Rattle.tables.specs.Rules.R9.{deletedBit, freeOne, deletedOne}
+use Rattle.tables.specs.Rules.R9.{freeOne, deletedOne}
 use Rattle.tables.proofs.ChainLaws.{walk-none}
-use Rattle.tables.proofs.CountLaws.{only-le, ones-deleted}
+use Rattle.tables.proofs.Sector1CountLaws.{only-le, ones-deleted}
 use Rattle.tables.proofs.FrameLaws.{table-kept}
 use Rattle.tables.proofs.IndexLaws.{slots-in}
-use Rattle.tables.proofs.WholeLaws.{clear-blocks}
-use Rattle.tables.proofs.ZoneEntryLaws.{zone-kept}
 use Rattle.allocation.specs.Last.{lastTable}
-use Rattle.allocation.specs.NewTables.{tablePlace}
 use Rattle.allocation.proofs.LastLaws.{file-short}
-use Rattle.files.specs.Release.{clearRuns, freeTable, freeTables, fileTables, putFreed, freedFile, clearBlocks, recounted, recountZone, recountZones, released, RunsWithin, WholeZone}
+use Rattle.files.specs.Release.{chainOf, fileTables, clearRuns, freeTable, freeTables, putFreed, freedFile, freedBlocks, recountZones, released}
+use Rattle.files.specs.Freed.{AllShort}
+use Rattle.files.specs.Asked.{RunsWithin}
 use Rattle.files.proofs.FileTables.{tables-in, tables-long}
-use Rattle.files.proofs.FreedBytes.{kept-clear, table-spared, table-link, Blanked, blanked-table, blanked-within, tables-blanked}
+use Rattle.files.proofs.FreedBytes.{kept-clear, freeFirst, free-all, table-spared, table-link, Blanked, blanked-table, blanked-within, tables-blanked}
 use Rattle.files.proofs.FreedView.{all-freed, linked-spared}
-use Rattle.files.proofs.RecountView.{kept-zones}
-use Rattle.files.proofs.ReleasedLawful.{freed-whole}
-
--- ---- a zone's entry
-
--- the clear blocks by the bits that are set
-pub clear-count : (p : Places) (b : List ℕ) (z t n size : ℕ) → n ≡ countBits b (p .sectortable) (firstOf z) 1024 → size ≡ blockOf t → Block size
-    → Whole (sectorAt p b) (firstOf z) (blockOf t) → (1024 - n) / size ≡ clearBlocks (viewOf p b) z t
-unfolding countBits
-clear-count p b z t n size h e k w =
-    let c = clear-blocks (sectorAt p b) (firstOf z) size (bitAt-lt b (p .sectortable)) k (rw e w) in
-    rw (← e) (div-eq-of-eq-mul-left (k .some) (omega arith))
-
-module _ (e : ZoneEntry) (n : ℕ) where
-  pub recounted-same : n ≡ e .free → e ≡ recounted e n
-  unfolding recounted
-  recounted-same h = rw (eq-eqb n (e .free) h)
-
-  module _ (size : ℕ) (ne : n ≡ e .free → ⊥) (s : size ≡ blockOf (e .ztype)) where
-    pub recounted-open : n ≡ 1024 / size → _≡_ {A = ZoneEntry} (record { ztype = 0; free = 0; third = 0 }) (recounted e n)
-    unfolding recounted
-    recounted-open h = rw (ne-eqb n (e .free) ne, eq-eqb n (perZone (e .ztype)) (h ∙ ap (λ (x : ℕ). 1024 / x) s))
-
-    pub recounted-other : (n ≡ 1024 / size → ⊥) → _≡_ {A = ZoneEntry} (record { ztype = e .ztype; free = n; third = 0 }) (recounted e n)
-    unfolding recounted
-    recounted-other h = rw (ne-eqb n (e .free) ne, ne-eqb n (perZone (e .ztype)) (λ q. h (q ∙ ap (λ (x : ℕ). 1024 / x) (sym s))))
-
-module _ (p : Places) (b : List ℕ) (z : ℕ) (e : ZoneEntry) (is : e ≡ zoneAt p b z) where
-  pub zone-low : e .ztype < 3 → b ≡ recountZone p b z
-  unfolding recountZone
-  zone-low l = rw (← is, lt-leb 3 (e .ztype) l)
-
-  pub zone-high : 3 ≤ e .ztype → 8 < e .ztype → b ≡ recountZone p b z
-  unfolding recountZone
-  zone-high h l = rw (← is, le-leb 3 (e .ztype) h, lt-leb (e .ztype) 8 l)
-
-  module _ (low : 3 ≤ e .ztype) (high : e .ztype ≤ 8) where
-    pub zone-whole : WholeZone p b z → Whole (sectorAt p b) (firstOf z) (blockOf (e .ztype))
-    zone-whole w = let t : Typed (e .ztype) = record { low = low; high = high } in rw is (w (rw is at t))
-
-    module _ (n : ℕ) (x : ZoneEntry) (of : x ≡ recounted e n) where
-      pub zone-typed : (y : List ℕ) → n ≡ clearBlocks (viewOf p b) z (e .ztype) → y ≡ putZone p b z (x .ztype) (x .free) (x .third) → y ≡ recountZone p b z
-      unfolding recountZone
-      zone-typed y c h = rw (← is, le-leb 3 (e .ztype) low, le-leb (e .ztype) 8 high, ← c, ← of) h
-
-      -- its three fields are of two bytes
-      pub zone-small : ((j : ℕ) → getD b j 0 < 256) → n ≤ 1024 → (x .ztype < 65536) × (x .free < 65536) × (x .third < 65536)
-      unfolding zoneAt
-      zone-small small few =
-          let own : (e .free < 65536) × (e .third < 65536) = rw is (u16-lt b _ small, u16-lt b _ small) in
-          rw of (elim (ℕ-discrete n (e .free)) [
-            | yes h ↦ rw (← recounted-same e n h) (omega arith, own .0, own .1)
-            | no ne ↦ elim (ℕ-discrete n (perZone (e .ztype))) [
-              | yes h ↦ rw (← recounted-open e n (blockOf (e .ztype)) ne refl h) (omega arith, omega arith, omega arith)
-              | no d ↦ rw (← recounted-other e n (blockOf (e .ztype)) ne refl d) (omega arith, omega arith, omega arith)
-            ]
-          ])
-
--- ---- all zones' entries
-
-module _ (p : Places) (b : List ℕ) where
-  pub zones-none : b ≡ recountZones p b 0
-  unfolding recountZones
-  zones-none = refl
-
-  module _ (x : List ℕ) (z : ℕ) (low : 2 ≤ z) (is : x ≡ recountZones p b (z - 2)) where
-    -- the next zone's entry and bits are still as they were
-    pub zones-whole : Layout p (length b) → Each (WholeZone p b) 2 (p .zones) → z < p .zones → WholeZone p x z
-    zones-whole lay w l =
-        let k : Kept b x (p .zonetable + 6) (6 * (z - 2)) = rw is (kept-zones p b lay (z - 2)) in
-        rw (zone-kept p z k (inr (omega arith))) (λ t j lj i li.
-        bit-kept (p .sectortable) _ k (inr (omega arith)) ∙ w z l low t j lj i li ∙ sym (bit-kept (p .sectortable) _ k (inr (omega arith))))
-
-    pub zones-more : (y : List ℕ) → y ≡ recountZone p x z → y ≡ recountZones p b (z + 1 - 2)
-    unfolding recountZones
-    zones-more y h =
-        let e : z + 1 - 2 ≡ suc (z - 2) = omega arith in
-        let q : z ≡ z - 2 + 2 = omega arith in
-        h ∙ ap (λ (s : List ℕ). recountZone p s z) is ∙ ap (recountZone p (recountZones p b (z - 2))) q ∙ ap (recountZones p b) (sym e)
-
-    pub zones-end : z ≤ p .zones → p .zones ≤ z → x ≡ recountZones p b (p .zones - 2)
-    zones-end hi l = is ∙ ap (λ (n : ℕ). recountZones p b (n - 2)) (let q : z ≡ p .zones = omega arith in q)
+use Rattle.files.proofs.ReleasedLawful.{freed-short}
 
 -- ---- a table's sectors
 
@@ -175,13 +81,10 @@ module _ (p : Places) (b : List ℕ) (i n at : ℕ) (x : List ℕ) (j : ℕ) (h 
           let k = rw (← h .books) at (kept-clear p b i (tableAt p b i) (h .within) j (omega (arith, below))) in
           rw (et ∙ table-kept p i k (inr (omega (arith, h .layout .index))), h .base) at eq
 
-      pub clearing-room : Room (length x) (p .sectortable) (q .start .0) (q .count)
-      clearing-room =
-          let w = h .within j below in
-          let lay = h .layout in
-          rw (read, h .len) (record { most = omega arith; within = omega arith })
+      pub clearing-room : q .start .0 + q .count ≤ 1024 * p .zones
+      clearing-room = rw read (h .within j below)
 
-      pub clearing-more : (y : List ℕ) → y ≡ setBits x (p .sectortable) (q .start .0) (q .count) 0 → Clearing p b i n at y (j + 1)
+      pub clearing-more : (y : List ℕ) → y ≡ putSectors p x (q .start .0) (q .count) 0 → Clearing p b i n at y (j + 1)
       unfolding clearRuns
       clearing-more y ey = record {
         layout = h .layout;
@@ -194,9 +97,9 @@ module _ (p : Places) (b : List ℕ) (i n at : ℕ) (x : List ℕ) (j : ℕ) (h 
       }
 
 module _ (p : Places) (b : List ℕ) (i : ℕ) where
-  pub table-freed : (x y : List ℕ) (at : ℕ) → x ≡ clearRuns p b i (tableAt p b i) (slotsOf i (tableAt p b i)) → at ≡ tablePlace p i → y ≡ over x at (replicate 124 0) → y ≡ freeTable p b i
+  pub table-freed : (x y : List ℕ) → x ≡ clearRuns p b i (tableAt p b i) (slotsOf i (tableAt p b i)) → y ≡ erased p x i 124 → y ≡ freeTable p b i
   unfolding freeTable
-  table-freed x y at ex ea ey = rw (ex, ea) at ey
+  table-freed x y ex ey = rw ex at ey
 
 -- ---- a file's tables
 
@@ -210,12 +113,12 @@ pub record Freeing (p : Places) (b : List ℕ) (f : ℕ) (x : List ℕ) (i n : �
   pub total : fileTables (viewOf p b) f ≡ suc long
   pub most : suc long ≤ 4096
   pub few : n ≤ suc long
-  pub books : x ≡ freeTables p b f n
+  pub books : x ≡ freeFirst p b f n
   pub len : length x ≡ length b
   pub here : walk (next (viewOf p b)) f n ≡ i
 
 pub freeing-none : (p : Places) (b : List ℕ) (f : ℕ) → Layout p (length b) → Lawful p b → Parent (viewOf p b) f → Freeing p b f b f 0
-unfolding freeTables
+unfolding freeFirst
 freeing-none p b f lay h parent =
     let ch = h .r5 .chain f parent in
     record {
@@ -224,7 +127,7 @@ freeing-none p b f lay h parent =
       parent = parent;
       long = h .r5 .long f;
       chain = ch;
-      total = tables-long (viewOf p b) (h .r4) (h .r5) (lay .few) f parent;
+      total = tables-long (viewOf p b) f (h .r5 .long f) parent ch;
       most = omega (arith, file-short (viewOf p b) f (h .r5 .long f) parent ch);
       few = omega arith;
       books = refl;
@@ -239,13 +142,13 @@ module _ (p : Places) (b : List ℕ) (f : ℕ) (x : List ℕ) (i n : ℕ) (h : F
   pub freeing-layout : Layout p (length x)
   freeing-layout = rw (h .len) (h .layout)
 
-  pub freeing-end : i ≡ 0 → (n ≡ fileTables (viewOf p b) f) × (x ≡ freeTables p b f n) × (n ≤ 4096)
+  pub freeing-end : i ≡ 0 → (n ≡ fileTables (viewOf p b) f) × (x ≡ freeTables p b (chainOf (viewOf p b) f)) × (n ≤ 4096)
   freeing-end z =
       let e : n ≡ suc (h .long) = elim (ℕ-discrete n (suc (h .long))) [
         | yes e ↦ e
         | no ne ↦ absurd (omega (arith, h .here, tables-in (viewOf p b) f (h .long) (h .parent) (h .chain) n (omega (arith, h .few)) .0))
       ] in
-      (e ∙ sym (h .total), h .books, omega (arith, h .most))
+      (e ∙ sym (h .total), h .books ∙ ap (freeFirst p b f) e ∙ sym (free-all p b (h .layout) (h .pointers) f (h .long) (h .parent) (h .chain)), omega (arith, h .most))
 
   module _ (some : i ≡ 0 → ⊥) where
     going : n < suc (h .long)
@@ -264,7 +167,7 @@ module _ (p : Places) (b : List ℕ) (f : ℕ) (x : List ℕ) (i n : ℕ) (h : F
     freeing-within = rw (← h .here) (blanked-within p b (h .layout) (h .pointers) f (h .long) (h .parent) (h .chain) n going x blanked)
 
     pub freeing-more : (y t : List ℕ) (r : ℕ) → y ≡ freeTable p x i → t ≡ tableAt p y i → r ≡ linkOf t → Freeing p b f y r (n + 1)
-    unfolding freeTables walk
+    unfolding freeFirst walk
     freeing-more y t r ey et er =
         let same : tableAt p x i ≡ tableAt p b i
         = rw (h .here) at (blanked-table p b (h .layout) (h .pointers) f (h .long) (h .parent) (h .chain) n going x blanked) in
@@ -279,7 +182,7 @@ module _ (p : Places) (b : List ℕ) (f : ℕ) (x : List ℕ) (i n : ℕ) (h : F
           total = h .total;
           most = h .most;
           few = omega (arith, going);
-          books = rw (add-one n) (ey ∙ ap (λ (s : List ℕ). freeTable p s i) (h .books) ∙ ap (freeTable p (freeTables p b f n)) (sym (h .here)));
+          books = rw (add-one n) (ey ∙ ap (λ (s : List ℕ). freeTable p s i) (h .books) ∙ ap (freeTable p (freeFirst p b f n)) (sym (h .here)));
           len = ap length ey ∙ table-spared p x i freeing-layout (freeing-in .0) (freeing-in .1) freeing-within .kept .len ∙ h .len;
           here = rw (add-one n) (ap (next (viewOf p b)) (h .here) ∙ sym next');
         }
@@ -299,10 +202,10 @@ module _ (p : Places) (b : List ℕ) (lay : Layout p (length b)) (lawful : Lawfu
   unfolding tally freeOne
   free-few = omega (arith, lawful .r9 .free, sum-le (p .indexes) (λ k. freeOne (k + 1) (tableAt p b (k + 1))) (λ k l. only-le (eqb (wordOf (tableAt p b (k + 1))) 0) 1))
 
-  module _ (first last at n : ℕ) (x y : List ℕ) (ef : first ≡ firstFreeOf b) (el : last ≡ lastTable (viewOf p b) f) (en : n ≡ fileTables (viewOf p b) f)
-      (ex : x ≡ freeTables p b f n) (few : n ≤ 4096) (ea : at ≡ tablePlace p last) (ey : y ≡ putU32 x (at + 124) first) where
+  module _ (first last n : ℕ) (x y : List ℕ) (ef : first ≡ firstFreeOf b) (el : last ≡ lastTable (viewOf p b) f) (en : n ≡ fileTables (viewOf p b) f)
+      (ex : x ≡ freeTables p b (chainOf (viewOf p b) f)) (few : n ≤ 4096) (ey : y ≡ putLink p x last first) where
     kept : Kept b y (p .sectortable) (p .indextable + 128 * p .indexes - p .sectortable)
-    kept = linked-spared p b lay lawful f parent x y (rw (ex, en) (all-freed p b lay lawful f parent)) (rw (ea, el, ef) at ey) .kept
+    kept = linked-spared p b lay lawful f parent x y (rw ex (all-freed p b lay lawful f parent)) (rw (el, ef) at ey) .kept
 
     pub file-counts : deletedBit (attributeOf (tableAt p b f)) ≡ 1 → (1 ≤ deletedOf y) × (freeOf y + n < 4294967296)
     file-counts gone =
@@ -312,11 +215,9 @@ module _ (p : Places) (b : List ℕ) (lay : Layout p (length b)) (lawful : Lawfu
 
     pub file-freed : (z date : List ℕ) → z ≡ putFreed y f n date → z ≡ freedFile p b f date
     unfolding freedFile
-    file-freed z date h = rw (ey, ea, el, ef, ex, en) at h
+    file-freed z date h = rw (ey, el, ef, ex, en) at h
 
-  pub file-whole : (date x : List ℕ) → deletedBit (attributeOf (tableAt p b f)) ≡ 1 → length date ≡ 6 → x ≡ freedFile p b f date → Each (WholeZone p x) 2 (p .zones)
-  file-whole date x gone six h = rw h (freed-whole p b lay lawful f parent gone date six)
-
-pub file-released : (p : Places) (b : List ℕ) (f : ℕ) (date x y : List ℕ) → x ≡ freedFile p b f date → y ≡ recountZones p x (p .zones - 2) → y ≡ released p b f date
-unfolding released
-file-released p b f date x y ex ey = rw ex at ey
+  pub file-released : (date x y : List ℕ) → deletedBit (attributeOf (tableAt p b f)) ≡ 1 → length date ≡ 6 → x ≡ freedFile p b f date
+      → ((freed : ℕ → ℕ) → AllShort (viewOf p x) freed → y ≡ recountZones p x freed (p .zones - 2)) → y ≡ released p b f date
+  unfolding released
+  file-released date x y gone six ex ey = rw ex at ey (freedBlocks (viewOf p b) f) (freed-short p b lay lawful f parent gone date six)

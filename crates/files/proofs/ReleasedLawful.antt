@@ -1,20 +1,18 @@
--- An actual delete keeps the rules. Assumes nothing.
+-- An actual delete keeps the rules.
 use mathlib.Core.Path.{_≡_}
 use mathlib.Core.List.{List}
 use Prim.Native.Nat.{ℕ}
 use lib.ListN.{length}
 use Rattle.field.proofs.BitLaws.{bitAt-lt}
 use Rattle.tables.specs.declared.places.Places.{Places}
-use Rattle.tables.specs.Findings.{Each}
-use Rattle.tables.specs.Indexes.{tableAt, attributeOf}
+use Rattle.tables.specs.Indexes.{tableAt, attributeOf, deletedBit}
 use Rattle.tables.specs.Places.{Layout}
 use Rattle.tables.specs.Lawful.{Lawful}
 use Rattle.tables.specs.Views.{viewOf, Parent}
-use Rattle.tables.specs.Rules.R9.{deletedBit}
 use Rattle.allocation.specs.Lengthened.{Quiet}
 use Rattle.allocation.proofs.HeldLawful.{quiet-R1, quiet-trans}
-use Rattle.files.specs.Release.{freedFile, released, WholeZone}
-use Rattle.files.specs.Freed.{Uncounted}
+use Rattle.files.specs.Release.{freedFile, freedBlocks, released}
+use Rattle.files.specs.Freed.{AllShort, Uncounted}
 use Rattle.files.proofs.FreedView.{freed-view, freed-quiet}
 use Rattle.files.proofs.FreedRules.{freed-rules}
 use Rattle.files.proofs.RecountView.{recount-view, recount-quiet}
@@ -28,24 +26,24 @@ module _ (p : Places) (b : List ℕ) (lay : Layout p (length b)) (lawful : Lawfu
   freed-layout : Layout p (length (freedFile p b f date))
   freed-layout = rw (freed-quietly .len) lay
 
-  uncounted : Uncounted (viewOf p (freedFile p b f date))
+  uncounted : Uncounted (viewOf p (freedFile p b f date)) (freedBlocks (viewOf p b) f)
   uncounted =
       let l = lawful in
       freed-rules (viewOf p b) (viewOf p (freedFile p b f date)) f (lay .few) (bitAt-lt b (p .sectortable))
       (l .r2) (l .r3) (l .r4) (l .r5) (l .r6) (l .r7) (l .r8) (l .r9) parent gone (freed-view p b lay lawful f parent date six)
 
-  pub freed-whole : Each (WholeZone p (freedFile p b f date)) 2 (p .zones)
-  freed-whole = uncounted .whole
+  pub freed-short : AllShort (viewOf p (freedFile p b f date)) (freedBlocks (viewOf p b) f)
+  freed-short = uncounted .short
 
   pub released-quiet : Quiet p b (released p b f date)
   unfolding released
-  released-quiet = quiet-trans freed-quietly (recount-quiet p (freedFile p b f date) freed-layout)
+  released-quiet = quiet-trans freed-quietly (recount-quiet p (freedFile p b f date) freed-layout (freedBlocks (viewOf p b) f))
 
   rules : Rules (viewOf p (released p b f date))
   unfolding released
   rules =
       let b' = freedFile p b f date in
-      recounted-rules (viewOf p b') (viewOf p (released p b f date)) (bitAt-lt b' (p .sectortable)) uncounted (recount-view p b' freed-layout)
+      recounted-rules (viewOf p b') (viewOf p (released p b f date)) (freedBlocks (viewOf p b) f) (bitAt-lt b' (p .sectortable)) uncounted (recount-view p b' freed-layout (freedBlocks (viewOf p b) f))
 
   pub released-lawful : Lawful p (released p b f date)
   released-lawful =

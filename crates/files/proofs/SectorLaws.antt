@@ -1,25 +1,26 @@
--- The ways through the functions that move sectors. Assumes nothing.
+-- The ways through the functions that move sectors.
 use mathlib.Core.Path.{_≡_, refl, sym, ap, ap₂, _∙_, subst}
 use mathlib.Core.Bool.{Bool, true, false}
 use mathlib.Core.List.{List, [], _∷_, _++_, append-nil}
 use Prim.Native.Nat.{ℕ, zero, suc, _+_, _-_, _*_, _%_, _≤_, _<_}
-use native.Mathlib.Nat.{not-suc-le-zero, le-of-suc-le-suc, add-sub-cancel-left, zero-add}
+use native.Mathlib.Nat.{not-suc-le-zero, le-of-suc-le-suc, add-sub-cancel-left, add-zero, zero-add}
 use native.Mathlib.Numerals.{add-one}
 use native.Mathlib.Omega.{arith}
-use lib.ListN.{length, getD, set, take, drop, drop-of-length-le, length-drop}
-use lib.Seq.{paste, length-take-le}
+use lib.ListN.{length, getD, set, take, drop, drop-of-length-le}
+use lib.Seq.{paste}
 use borrow.Rule.Slice.PartMut.{putMid, post-is}
 use Rattle.field.specs.Parts.{over}
-use Rattle.field.proofs.PartLaws.{copy-more, copy-end}
+use Rattle.field.proofs.PartLaws.{copy-more, copy-end, length-over}
 use Rattle.tables.specs.declared.places.Places.{Places}
 use Rattle.tables.specs.Places.{Layout}
 use Rattle.tables.specs.Lawful.{Lawful}
 use Rattle.tables.specs.Views.{View, viewOf}
 use Rattle.files.specs.declared.spot.Spot.{Spot}
-use Rattle.files.specs.Spots.{spotStart, onward, spotOf, kthSector, OnSector}
-use Rattle.files.specs.Moves.{exchanged, moved, bodyPlace, sectorContent, filled, fetched, Movable}
-use Rattle.files.proofs.SpotLaws.{spot-next, spot-on}
-use Rattle.files.proofs.MoveLaws.{length-exchanged, length-moved, length-piece, sector-inside, sector-fits}
+use Rattle.files.specs.Spots.{spotStart, onward, spotOf, kthSector}
+use Rattle.files.specs.Moves.{exchanged, moved, bodyPlace, bufferSector, sectorsLaid, filled, fetched, Movable}
+use Rattle.files.specs.Asked.{OnSector}
+use Rattle.files.proofs.SpotLaws.{spot-next, kth-at, spot-on}
+use Rattle.files.proofs.MoveLaws.{length-exchanged}
 
 -- ---- a sector copied
 
@@ -62,13 +63,6 @@ pub move-plain : (x : Bool) (d₀ d s : List ℕ) → x ≡ false → d ≡ over
 unfolding moved
 move-plain x d₀ d s e h l m = rw e (h ∙ over-all d₀ s (m ∙ sym l))
 
--- ---- a sector in the body
-
-pub body-part : (body : List ℕ) (s a : ℕ) → a ≡ bodyPlace s → 1024 ≤ s → 1024 * (s - 1023) ≤ length body
-    → (take (a + 1024 - a) (drop a body) ≡ sectorContent body s) × (length (take (a + 1024 - a) (drop a body)) ≡ 1024)
-body-part body s a e low high =
-    rw add-sub-cancel-left (ap (λ (n : ℕ). take 1024 (drop n body)) e, length-take-le 1024 (drop a body) (omega (arith, length-drop a body)))
-
 -- a lent part that is back
 put-over : (a e : ℕ) (xs ys : List ℕ) → a ≤ e → length ys ≡ e - a → putMid a (e - a) xs ys ≡ over xs a ys
 unfolding over
@@ -78,43 +72,54 @@ put-over a e xs ys h k =
 
 -- ---- the loops
 
--- the spot's sector is the file's
-spot-sector : (v : View) (f j : ℕ) (c : Spot) (s : ℕ) → c ≡ spotOf v f j → s ≡ spotStart v c + c .off → s ≡ kthSector v f j
-unfolding kthSector
-spot-sector v f j c s e h = h ∙ ap (λ (d : Spot). spotStart v d + d .off) e
+-- i of n sectors are moved, from the spot c₀ on: c is the next one's, and the bytes are xs. The loop does not know the file any more: the facts
+-- hold for each whose k-th sector c₀ is.
+pub record Moving (v : View) (k n : ℕ) (done : ℕ → ℕ → List ℕ) (xs₀ : List ℕ) (c₀ : Spot) (xs : List ℕ) (c : Spot) (i : ℕ) : Type 0 where
+  pub few : i ≤ n
+  pub len : length xs ≡ length xs₀
+  pub spot : (f : ℕ) → c₀ ≡ spotOf v f k → c ≡ spotOf v f (k + i)
+  pub bytes : (f : ℕ) → c₀ ≡ spotOf v f k → xs ≡ done f i
 
-pub spot-more : (v : View) (f k i : ℕ) (c d : Spot) → c ≡ spotOf v f (k + i) → d ≡ onward v c → d ≡ spotOf v f (k + (i + 1))
-spot-more v f k i c d e h =
-    h ∙ ap (onward v) e ∙ sym (spot-next v f (k + i)) ∙ ap (spotOf v f) (let q : k + i + 1 ≡ k + (i + 1) = omega arith in q)
+module _ (v : View) (k n : ℕ) (done : ℕ → ℕ → List ℕ) (xs₀ : List ℕ) (c₀ : Spot) where
+  pub moving-none : ((f : ℕ) → xs₀ ≡ done f 0) → Moving v k n done xs₀ c₀ xs₀ c₀ 0
+  moving-none none = record { few = omega arith; len = refl; spot = λ f e. rw add-zero e; bytes = λ f e. none f }
+
+  module _ (xs : List ℕ) (c : Spot) (i : ℕ) (m : Moving v k n done xs₀ c₀ xs c i) where
+    -- a turn lays the next sector over the bytes, from a on
+    pub moving-more : i < n → (d : Spot) → d ≡ onward v c → (a : ℕ) (last : List ℕ) → a + 1024 ≤ length xs → length last ≡ 1024
+        → ((f : ℕ) → c ≡ spotOf v f (k + i) → done f (i + 1) ≡ over (done f i) a last) → Moving v k n done xs₀ c₀ (putMid a (a + 1024 - a) xs last) d (i + 1)
+    moving-more l d h a last fits size more =
+        let put : putMid a (a + 1024 - a) xs last ≡ over xs a last = put-over a (a + 1024) xs last (omega arith) (omega (arith, size)) in
+        record {
+          few = omega arith;
+          len = ap length put ∙ length-over xs a last (omega (arith, size)) ∙ m .len;
+          spot = λ f e. h ∙ ap (onward v) (m .spot f e) ∙ sym (spot-next v f (k + i)) ∙ ap (spotOf v f) (let q : k + i + 1 ≡ k + (i + 1) = omega arith in q);
+          bytes = λ f e. put ∙ ap (λ (ys : List ℕ). over ys a last) (m .bytes f e) ∙ sym (more f (m .spot f e));
+        }
+
+    pub moving-end : n ≤ i → (f : ℕ) → c₀ ≡ spotOf v f k → xs ≡ done f n
+    moving-end l f e = m .bytes f e ∙ ap (done f) (let q : i ≡ n = omega (arith, m .few) in q)
 
 module _ (p : Places) (b : List ℕ) (lay : Layout p (length b)) (lawful : Lawful p b) (f k n room body : ℕ) (m : Movable (viewOf p b) f k n room body)
-    (i : ℕ) (l : i < n) (c : Spot) (at : c ≡ spotOf (viewOf p b) f (k + i)) where
-  pub spot-here : OnSector (viewOf p b) c
-  spot-here = subst (OnSector (viewOf p b)) (sym at) (spot-on p b lay lawful f (m .parent) (k + i) (omega (arith, m .within)))
+    (done : ℕ → ℕ → List ℕ) (xs₀ : List ℕ) (c₀ : Spot) (from : c₀ ≡ spotOf (viewOf p b) f k) (xs : List ℕ) (c : Spot) (i : ℕ) (h : Moving (viewOf p b) k n done xs₀ c₀ xs c i)
+    (l : i < n) where
+  pub moving-here : OnSector (viewOf p b) c
+  moving-here = subst (OnSector (viewOf p b)) (sym (h .spot f from)) (spot-on p b lay lawful f (m .parent) (k + i) (omega (arith, m .within)))
 
-  pub sector-here : (s : ℕ) → s ≡ spotStart (viewOf p b) c + c .off → (1024 ≤ s) × (1024 * (s - 1023) ≤ body)
-  sector-here s h =
-      let e = spot-sector (viewOf p b) f (k + i) c s at h in
-      let low = sector-inside p b lay lawful f k n room body m i l in
-      let high = sector-fits p b lay lawful f k n room body m i l in
-      (omega (arith, e, low .0), omega (arith, e, low .0, high))
+-- the spot's sector is the file's
+spot-sector : (v : View) (f j : ℕ) (c : Spot) (a : ℕ) → c ≡ spotOf v f j → a ≡ bodyPlace (spotStart v c + c .off) → a ≡ bodyPlace (kthSector v f j)
+spot-sector v f j c a e h = h ∙ ap bodyPlace (ap (λ (d : Spot). spotStart v d + d .off) e ∙ sym (kth-at v f j))
 
--- a turn that writes: the input's next sector is laid over the body
-module _ (v : View) (f k n : ℕ) (x : Bool) (input body₀ body last : List ℕ) (i : ℕ) (c : Spot) (s a : ℕ) where
-  pub write-more : 1024 * n ≤ length input → i < n → body ≡ filled v f k x input body₀ i → c ≡ spotOf v f (k + i) → s ≡ spotStart v c + c .off → a ≡ bodyPlace s
-      → last ≡ moved x (take (1024 * i + 1024 - 1024 * i) (drop (1024 * i) input)) → putMid a (a + 1024 - a) body last ≡ filled v f k x input body₀ (i + 1)
-  unfolding filled
-  write-more room l e at h place h' =
-      let w : last ≡ moved x (take 1024 (drop (1024 * i) input)) = rw add-sub-cancel-left at h' in
-      let size : length last ≡ 1024 = ap length w ∙ length-moved x (take 1024 (drop (1024 * i) input)) ∙ length-piece input i n room l in
-      put-over a (a + 1024) body last (omega arith) (omega (arith, size))
-      ∙ rw (e, place, spot-sector v f (k + i) c s at h, w, add-one i)
+module _ (v : View) (f k : ℕ) (x : Bool) (c : Spot) (i a : ℕ) (at : c ≡ spotOf v f (k + i)) (place : a ≡ bodyPlace (spotStart v c + c .off)) (last : List ℕ) where
+  -- a turn that writes: the input's next sector is laid over the body
+  pub write-more : (input body : List ℕ) → last ≡ moved x (take (1024 * i + 1024 - 1024 * i) (drop (1024 * i) input))
+      → filled v f k x input body (i + 1) ≡ over (filled v f k x input body i) a last
+  unfolding filled sectorsLaid
+  write-more input body h = let w : last ≡ moved x (bufferSector input i) = rw add-sub-cancel-left at h in rw (add-one i, w, spot-sector v f (k + i) c a at place)
 
--- a turn that reads: the file's next sector is laid over the output
-module _ (v : View) (f k : ℕ) (x : Bool) (body out₀ out last from : List ℕ) (i : ℕ) (c : Spot) (s : ℕ) where
-  pub read-more : out ≡ fetched v f k x body out₀ i → c ≡ spotOf v f (k + i) → s ≡ spotStart v c + c .off → from ≡ sectorContent body s → length from ≡ 1024
-      → last ≡ moved x from → putMid (1024 * i) (1024 * i + 1024 - 1024 * i) out last ≡ fetched v f k x body out₀ (i + 1)
-  unfolding fetched
-  read-more e at h part size h' =
-      put-over (1024 * i) (1024 * i + 1024) out last (omega arith) (omega (arith, ap length h' ∙ length-moved x from))
-      ∙ rw (e, h', part, spot-sector v f (k + i) c s at h, add-one i)
+  -- a turn that reads: the file's next sector is laid over the output
+  pub read-more : (body out : List ℕ) → last ≡ moved x (take (a + 1024 - a) (drop a body)) → fetched v f k x body out (i + 1) ≡ over (fetched v f k x body out i) (1024 * i) last
+  unfolding fetched sectorsLaid
+  read-more body out h =
+      let w : last ≡ moved x (take 1024 (drop a body)) = rw add-sub-cancel-left at h in
+      rw (add-one i, w, spot-sector v f (k + i) c a at place)

@@ -1,4 +1,4 @@
--- What the functions find at a spot, each way out of them, and the k-th sector sought pointer by pointer. Assumes nothing.
+-- What the functions find at a spot, each way out of them, and the k-th sector sought pointer by pointer.
 use mathlib.Core.Path.{_≡_, refl, sym, ap, _∙_}
 use mathlib.Core.Bool.{Bool, true, false}
 use mathlib.Core.List.{List}
@@ -17,7 +17,8 @@ use Rattle.tables.specs.Views.{View, viewOf, Parent}
 use Rattle.tables.specs.Rules.R8.{fileSectors}
 use Rattle.tables.proofs.IndexLaws.{slots-in}
 use Rattle.files.specs.declared.spot.Spot.{Spot}
-use Rattle.files.specs.Spots.{spotAt, spotStart, spotCount, moreAt, nextRun, onward, spotOf, OnTable, OnSector}
+use Rattle.files.specs.Spots.{spotAt, spotStart, spotCount, moreAt, nextRun, onward, spotOf}
+use Rattle.files.specs.Asked.{OnTable, OnSector}
 use Rattle.files.proofs.SpotLaws.{onward-under, onward-run, run-more, run-further, spot-on}
 
 -- ---- the pointer at a spot
@@ -52,22 +53,11 @@ more-none p b c t n is slots l =
     let h : slotsOf i (tableAt p b i) ≤ c .slot + 1 = (let w : slotsOf i t ≡ slotsOf i (tableAt p b i) = ap (slotsOf i) is in omega arith) in
     rw (le-ltb (c .slot + 1) (slotsOf i (tableAt p b i)) h) refl
 
--- ---- the first sector under the next pointer, and the next sector
+-- ---- the first sector under the next pointer, where it is one of the next table
 
-module _ (v : View) (c : Spot) where
-  module _ (m : Bool) (is : m ≡ moreAt v c) where
-    pub next-slot : m ≡ true → _≡_ {A = Spot} (record { table = c .table; slot = c .slot + 1; off = 0 }) (nextRun v c)
-    next-slot e = sym (run-more v c (sym is ∙ e))
-
-    pub next-table : m ≡ false → (x : Index) (t : List ℕ) → x .0 ≡ linkOf t → t ≡ v .table (c .table .0) → _≡_ {A = Spot} (record { table = x; slot = 0; off = 0 }) (nextRun v c)
-    next-table e x t l h = (let w : x .0 ≡ linkOf (v .table (c .table .0)) = l ∙ ap linkOf h in ap (λ (n : ℕ). spotAt n 0) w) ∙ sym (run-further v c (sym is ∙ e))
-
-  module _ (n : ℕ) (is : n ≡ spotCount v c) where
-    pub onward-same : c .off + 1 < n → _≡_ {A = Spot} (record { table = c .table; slot = c .slot; off = c .off + 1 }) (onward v c)
-    onward-same l = sym (onward-under v c (omega arith))
-
-    pub onward-other : n ≤ c .off + 1 → (r : Spot) → r ≡ nextRun v c → r ≡ onward v c
-    onward-other l r e = e ∙ sym (onward-run v c (omega arith))
+pub next-table : (v : View) (c : Spot) (m : Bool) → m ≡ moreAt v c → m ≡ false → (x : Index) (t : List ℕ) → x .0 ≡ linkOf t → t ≡ v .table (c .table .0)
+    → _≡_ {A = Spot} (record { table = x; slot = 0; off = 0 }) (nextRun v c)
+next-table v c m is e x t l h = (let w : x .0 ≡ linkOf (v .table (c .table .0)) = l ∙ ap linkOf h in ap (λ (n : ℕ). spotAt n 0) w) ∙ sym (run-further v c (sym is ∙ e))
 
 -- ---- seeking
 

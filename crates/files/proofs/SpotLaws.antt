@@ -1,4 +1,4 @@
--- The file's k-th sector: where it stands in the chain, and that it is a sector under a pointer. Assumes nothing.
+-- The file's k-th sector: where it stands in the chain, and that it is a sector under a pointer.
 use mathlib.Core.Path.{_≡_, refl, sym, ap, _∙_}
 use mathlib.Core.Bool.{Bool, true, false, true≢false, and-eq-true-iff}
 use mathlib.Core.List.{List}
@@ -24,10 +24,11 @@ use Rattle.tables.proofs.IndexLaws.{slots-parent}
 use Rattle.allocation.specs.Last.{usedPointers}
 use Rattle.allocation.proofs.LastLaws.{used-le, used-before, used-not, used-some}
 use Rattle.files.specs.declared.spot.Spot.{Spot}
-use Rattle.files.specs.Spots.{spotAt, spotCount, moreAt, nextRun, onward, spotOf, kthSector, OnSector}
+use Rattle.files.specs.Spots.{spotAt, spotStart, spotCount, moreAt, nextRun, onward, spotOf, kthSector}
+use Rattle.files.specs.Asked.{OnSector}
 use Rattle.files.proofs.FileTables.{tables-in, sectors-chain}
 
--- spot c is the file's k-th sector: in the `place`-th of its m + 1 tables, behind the sectors of the tables and pointers before it
+-- spot c is the file's k-th sector: in the `place`-th of its m + 1 tables, after the sectors of the tables and pointers before it
 pub record Reached (v : View) (f m k : ℕ) (c : Spot) : Type 0 where
   pub place : ℕ
   pub within : place ≤ m
@@ -40,6 +41,10 @@ pub record Reached (v : View) (f m k : ℕ) (c : Spot) : Type 0 where
 pub spot-next : (v : View) (f k : ℕ) → spotOf v f (k + 1) ≡ onward v (spotOf v f k)
 unfolding spotOf
 spot-next v f k = rw (add-one k)
+
+pub kth-at : (v : View) (f k : ℕ) → kthSector v f k ≡ spotStart v (spotOf v f k) + spotOf v f k .off
+unfolding kthSector
+kth-at v f k = refl
 
 -- ---- one step onward
 

@@ -1,4 +1,4 @@
--- Files that a request does not name: their sectors stay at their places. Which requests leave which tables. Assumes nothing.
+-- Files that a request does not name: their sectors stay at their places. Which requests leave which tables.
 use mathlib.Core.Path.{_≡_, refl, sym, ap, _∙_}
 use mathlib.Core.Logic.{_≢_, _⊎_, inl, inr, ⊎-elim}
 use mathlib.Core.List.{List}
@@ -16,7 +16,7 @@ use Rattle.tables.specs.Views.{View, viewOf, Parent}
 use Rattle.tables.proofs.IndexLaws.{base-parent, file-free}
 use Rattle.allocation.proofs.ChangeLaws.{parent-file}
 use Rattle.allocation.proofs.PointerBytes.{slots-word, base-word, file-word}
-use Rattle.files.specs.Release.{freedFile, released}
+use Rattle.files.specs.Release.{freedFile, freedBlocks, released}
 use Rattle.files.specs.Freed.{Freed}
 use Rattle.files.specs.Unchanged.{Untouched, SamePlaces}
 use Rattle.files.proofs.FollowLaws.{Follows, FileFollows, follows-alike, follows-same, follows-most, follows-places}
@@ -152,7 +152,7 @@ module _ (p : Places) (b : List ℕ) (lay : Layout p (length b)) (lawful : Lawfu
 
   counted-table : (j : ℕ) → 1 ≤ j → j ≤ p .indexes → tableAt p (released p b f date) j ≡ tableAt p (freedFile p b f date) j
   unfolding released
-  counted-table j lo hi = recount-view p (freedFile p b f date) (rw (freed-quiet p b lay lawful f parent date six .len) lay) .files .table j lo hi
+  counted-table j lo hi = recount-view p (freedFile p b f date) (rw (freed-quiet p b lay lawful f parent date six .len) lay) (freedBlocks (viewOf p b) f) .files .table j lo hi
 
   released-out : (j : ℕ) → 1 ≤ j → j ≤ p .indexes → fileOf j (tableAt p b j) ≢ f → tableAt p (released p b f date) j ≡ tableAt p b j
   released-out j lo hi nf = counted-table j lo hi ∙ freed .there j lo hi nf

@@ -1,4 +1,5 @@
 pub mod Spots
+pub mod Asked
 pub mod Moves
 pub mod Release
 pub mod Freed

@@ -3,7 +3,7 @@ use mathlib.Core.Path.{_≡_}
 use mathlib.Core.Bool.{Bool, cond}
 use mathlib.Core.List.{List, [], _∷_}
 use Prim.Native.Nat.{ℕ, zero, suc, _+_, _-_, _*_, _≤_, _<_}
-use lib.ListN.{length, take, drop}
+use lib.ListN.{take, drop}
 use Rattle.field.specs.Parts.{over}
 use Rattle.tables.specs.Rules.R8.{fileSectors}
 use Rattle.tables.specs.Views.{View, Parent}
@@ -29,20 +29,23 @@ abbrev pub sectorContent : List ℕ → ℕ → List ℕ
 sectorContent body s = take 1024 (drop (bodyPlace s) body)
 
 -- the n-th 1,024 bytes of a buffer
-abbrev pub piece : List ℕ → ℕ → List ℕ
-piece s n = take 1024 (drop (1024 * n) s)
+abbrev pub bufferSector : List ℕ → ℕ → List ℕ
+bufferSector s n = take 1024 (drop (1024 * n) s)
+
+-- n sectors laid over xs, one after another: the i-th is `part i`, and it is laid from byte 1024 * `at i` on
+unfoldable pub sectorsLaid : (ℕ → ℕ) → (ℕ → List ℕ) → List ℕ → ℕ → List ℕ
+sectorsLaid at part xs zero = xs
+sectorsLaid at part xs (suc n) = over (sectorsLaid at part xs n) (1024 * at n) (part n)
 
 -- the body once n sectors of the input are written, from the file's k-th sector on
 unfoldable pub filled : View → ℕ → ℕ → Bool → List ℕ → List ℕ → ℕ → List ℕ
-unfolding moved kthSector
-filled v f k x input body zero = body
-filled v f k x input body (suc n) = over (filled v f k x input body n) (bodyPlace (kthSector v f (k + n))) (moved x (piece input n))
+unfolding sectorsLaid moved kthSector
+filled v f k x input body n = sectorsLaid (λ i. kthSector v f (k + i) - 1024) (λ i. moved x (bufferSector input i)) body n
 
 -- the output once n sectors are read, from the file's k-th sector on
 unfoldable pub fetched : View → ℕ → ℕ → Bool → List ℕ → List ℕ → ℕ → List ℕ
-unfolding moved kthSector
-fetched v f k x body out zero = out
-fetched v f k x body out (suc n) = over (fetched v f k x body out n) (1024 * n) (moved x (sectorContent body (kthSector v f (k + n))))
+unfolding sectorsLaid moved kthSector
+fetched v f k x body out n = sectorsLaid (λ i. i) (λ i. moved x (sectorContent body (kthSector v f (k + i)))) out n
 
 -- n sectors of file f from the k-th on can be moved between the body and a buffer of `room` bytes
 pub record Movable (v : View) (f k n room body : ℕ) : Type 0 where

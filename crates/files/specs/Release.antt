@@ -1,101 +1,95 @@
 -- "Actual delete: blocks freed, a zone left empty becomes (0,0,0), and the free chain becomes the file's tables in order, then the old chain."
-use mathlib.Core.Bool.{Bool, cond, _&&_}
-use mathlib.Core.List.{List}
-use Prim.Native.Nat.{ℕ, zero, suc, _+_, _-_, _*_, _≤_, _<_}
-use lib.Dec.{eqb, leb}
-use lib.ListN.{replicate}
-use Rattle.field.specs.Numbers.{putU32}
-use Rattle.field.specs.Parts.{over}
-use Rattle.field.specs.Runs.{setBits}
+use mathlib.Core.Bool.{cond}
+use mathlib.Core.List.{List, [], _∷_}
+use Prim.Native.Nat.{ℕ, zero, suc, _+_, _-_, _*_}
+use lib.Dec.{eqb, ltb}
+use lib.ListN.{length}
 use Rattle.field.specs.Sum.{sumTo}
 use Rattle.tables.specs.declared.places.Places.{Places}
 use Rattle.tables.specs.declared.zone.ZoneEntry.{ZoneEntry}
 use Rattle.tables.specs.Kinds.{firstOf}
-use Rattle.tables.specs.Blocks.{Typed, blockOf, Whole}
-use Rattle.tables.specs.Indexes.{tableAt, slotsOf, startOf, countOf, fileOf}
-use Rattle.tables.specs.Room.{perZone}
-use Rattle.tables.specs.Sector1.{deletedOf, freeOf, firstFreeOf}
-use Rattle.tables.specs.Sectors.{sectorAt}
-use Rattle.tables.specs.Views.{View, viewOf, walk, next, onlyIf, tally}
+use Rattle.tables.specs.Blocks.{blockOf}
+use Rattle.tables.specs.Indexes.{tableAt, erased, putLink, slotsOf, startOf, countOf, fileOf}
+use Rattle.tables.specs.Blocks.{perZone}
+use Rattle.tables.specs.Sector1.{deletedOf, putDeleted, freeOf, putFree, putLatest, firstFreeOf, putFirstFree}
+use Rattle.tables.specs.Sectors.{putSectors}
+use Rattle.tables.specs.Views.{View, viewOf, next, onlyIf, tally, overOf}
 use Rattle.tables.specs.Zones.{zoneAt, putZone}
-use Rattle.allocation.specs.NewTables.{tablePlace}
 use Rattle.allocation.specs.Last.{lastTable}
 
--- ---- "blocks freed": the file's tables and the bits of their sectors
+-- ---- the file's tables, free before the old chain
+
+-- the tables that links lead to from i, n at most: "0 ends any chain"
+unfoldable pub chainFrom : (ℕ → ℕ) → ℕ → ℕ → List ℕ
+chainFrom link zero i = []
+chainFrom link (suc n) i = cond (eqb i 0) [] (i ∷ chainFrom link n (link i))
+
+-- the tables of file f: the parent, then its children in order
+unfoldable pub chainOf : View → ℕ → List ℕ
+unfolding chainFrom
+chainOf v f = chainFrom (next v) (v .indexes) f
+
+-- how many they are
+abbrev pub fileTables : View → ℕ → ℕ
+fileTables v f = length (chainOf v f)
 
 -- the sectors under the first n pointers of table i, whose bytes are t, are free
 unfoldable pub clearRuns : Places → List ℕ → ℕ → List ℕ → ℕ → List ℕ
 clearRuns p b i t zero = b
-clearRuns p b i t (suc n) = setBits (clearRuns p b i t n) (p .sectortable) (startOf i t n) (countOf i t n) 0
+clearRuns p b i t (suc n) = putSectors p (clearRuns p b i t n) (startOf i t n) (countOf i t n) 0
 
 -- table i is free, and so are its sectors: "A free index is all zeros but 124-127", its link, which stays
 unfoldable pub freeTable : Places → List ℕ → ℕ → List ℕ
 unfolding clearRuns
-freeTable p b i = over (clearRuns p b i (tableAt p b i) (slotsOf i (tableAt p b i))) (tablePlace p i) (replicate 124 0)
+freeTable p b i = erased p (clearRuns p b i (tableAt p b i) (slotsOf i (tableAt p b i))) i 124
 
--- so are the first n tables of file f
-unfoldable pub freeTables : Places → List ℕ → ℕ → ℕ → List ℕ
+-- so are the tables of a list
+unfoldable pub freeTables : Places → List ℕ → List ℕ → List ℕ
 unfolding freeTable
-freeTables p b f zero = b
-freeTables p b f (suc n) = freeTable p (freeTables p b f n) (walk (next (viewOf p b)) f n)
-
--- how many tables file f has
-unfoldable pub fileTables : View → ℕ → ℕ
-fileTables v f = tally v (λ i t. onlyIf (eqb (fileOf i t) f) 1)
+freeTables p b [] = b
+freeTables p b (i ∷ is) = freeTables p (freeTable p b i) is
 
 -- sector 1 with n free index tables more, f the first of them, a temporarily deleted file fewer, and the date as latest update
 unfoldable pub putFreed : List ℕ → ℕ → ℕ → List ℕ → List ℕ
-putFreed b f n date = over (putU32 (putU32 (putU32 b 1032 (deletedOf b - 1)) 1036 (freeOf b + n)) 1050 f) 1044 date
+putFreed b f n date = putLatest (putFirstFree (putFree (putDeleted b (deletedOf b - 1)) (freeOf b + n)) f) date
 
 -- "the free chain becomes the file's tables in order, then the old chain"
 unfoldable pub freedFile : Places → List ℕ → ℕ → List ℕ → List ℕ
-unfolding freeTables fileTables putFreed lastTable
+unfolding freeTables chainOf putFreed lastTable
 freedFile p b f date =
-    putFreed (putU32 (freeTables p b f (fileTables (viewOf p b) f)) (tablePlace p (lastTable (viewOf p b) f) + 124) (firstFreeOf b)) f (fileTables (viewOf p b) f) date
+    let v = viewOf p b in
+    putFreed (putLink p (freeTables p b (chainOf v f)) (lastTable v f) (firstFreeOf b)) f (fileTables v f) date
 
--- ---- zone entries: "the free count is the number of clear blocks"
+-- ---- "blocks freed, a zone left empty becomes (0,0,0)"
 
--- the clear blocks of zone z, where blocks are of type t
-abbrev pub clearBlocks : View → ℕ → ℕ → ℕ
-clearBlocks v z t = sumTo (perZone t) (λ k. 1 - v .bit (firstOf z + k * blockOf t))
+-- how many pointers of file f's tables lie over sector s
+unfoldable pub gone : View → ℕ → ℕ → ℕ
+gone v f s = tally v (λ i t. onlyIf (eqb (fileOf i t) f) (overOf i t s))
 
--- type 3-8
-abbrev pub isTyped : ℕ → Bool
-isTyped t = leb 3 t && leb t 8
+-- how many blocks of zone z lie under pointers of file f's tables: each lies there whole (R6), so that its first sector tells, and under one
+-- pointer (R7)
+unfoldable pub freedBlocks : View → ℕ → ℕ → ℕ
+unfolding gone
+freedBlocks v f z = sumTo (perZone (v .zone z .ztype)) (λ k. gone v f (firstOf z + k * blockOf (v .zone z .ztype)))
 
--- a zone's entry with n clear blocks: where blocks of the zone were freed n is not the old number, and "a zone left empty becomes (0,0,0)"
+-- the entry e of a zone of which n blocks are freed
 unfoldable pub recounted : ZoneEntry → ℕ → ZoneEntry
 recounted e n =
-    cond (eqb n (e .free)) e
-    (cond (eqb n (perZone (e .ztype))) (record { ztype = 0; free = 0; third = 0 }) (record { ztype = e .ztype; free = n; third = 0 }))
+    cond (eqb (e .free + n) (perZone (e .ztype))) (record { ztype = 0; free = 0; third = 0 }) (record { ztype = e .ztype; free = e .free + n; third = e .third })
 
--- the books with this entry for zone z
-abbrev pub putEntry : Places → List ℕ → ℕ → ZoneEntry → List ℕ
-putEntry p b z e = putZone p b z (e .ztype) (e .free) (e .third)
-
--- zone z, if it is of type 3-8, with its clear blocks counted
-unfoldable pub recountZone : Places → List ℕ → ℕ → List ℕ
+-- the books with zone z's entry so, if any are freed
+unfoldable pub recountZone : Places → List ℕ → ℕ → ℕ → List ℕ
 unfolding recounted
-recountZone p b z = cond (isTyped (zoneAt p b z .ztype)) (putEntry p b z (recounted (zoneAt p b z) (clearBlocks (viewOf p b) z (zoneAt p b z .ztype)))) b
+recountZone p b z n = let e = recounted (zoneAt p b z) n in cond (ltb 0 n) (putZone p b z (e .ztype) (e .free) (e .third)) b
 
--- zones 2 to n + 1
-unfoldable pub recountZones : Places → List ℕ → ℕ → List ℕ
+-- zones 2 to n + 1, with so many freed of each
+unfoldable pub recountZones : Places → List ℕ → (ℕ → ℕ) → ℕ → List ℕ
 unfolding recountZone
-recountZones p b zero = b
-recountZones p b (suc n) = recountZone p (recountZones p b n) (n + 2)
+recountZones p b freed zero = b
+recountZones p b freed (suc n) = recountZone p (recountZones p b freed n) (n + 2) (freed (n + 2))
 
 -- ---- the books without file f
 
 unfoldable pub released : Places → List ℕ → ℕ → List ℕ → List ℕ
-unfolding freedFile recountZones
-released p b f date = recountZones p (freedFile p b f date) (p .zones - 2)
-
--- ---- what the functions ask
-
--- the sectors under the pointers of table i, whose bytes are t, are sectors of the volume
-abbrev pub RunsWithin : Places → ℕ → List ℕ → Type 0
-RunsWithin p i t = (j : ℕ) → j < slotsOf i t → startOf i t j + countOf i t j ≤ 1024 * p .zones
-
--- the blocks of zone z, if it is of type 3-8, are whole
-abbrev pub WholeZone : Places → List ℕ → ℕ → Type 0
-WholeZone p b z = Typed (zoneAt p b z .ztype) → Whole (sectorAt p b) (firstOf z) (blockOf (zoneAt p b z .ztype))
+unfolding freedFile freedBlocks recountZones
+released p b f date = recountZones p (freedFile p b f date) (freedBlocks (viewOf p b) f) (p .zones - 2)

@@ -1,9 +1,8 @@
 -- A file's sectors in order: "the file's k-th sector (k unsigned, from 0)". The file's tables come in the order of its chain, in each table
 -- the pointers, under each pointer its sectors. A spot is such a sector: a table, the number of a pointer in it, and how many of the pointer's
 -- sectors stand before it.
-use mathlib.Core.Path.{_≡_}
 use mathlib.Core.Bool.{Bool, cond, _&&_}
-use Prim.Native.Nat.{ℕ, zero, suc, _+_, _-_, _*_, _≤_, _<_}
+use Prim.Native.Nat.{ℕ, zero, suc, _+_}
 use lib.Dec.{ltb}
 use Rattle.tables.specs.Indexes.{slotsOf, startOf, countOf}
 use Rattle.tables.specs.Views.{View, next}
@@ -44,18 +43,3 @@ spotOf v f (suc k) = onward v (spotOf v f k)
 unfoldable pub kthSector : View → ℕ → ℕ → ℕ
 unfolding spotOf
 kthSector v f k = spotStart v (spotOf v f k) + spotOf v f k .off
-
--- ---- what the functions ask
-
--- the spot names a pointer's place in a table
-pub record OnTable (v : View) (c : Spot) : Type 0 where
-  pub low : 1 ≤ c .table .0
-  pub high : c .table .0 ≤ v .indexes
-  pub slot' : c .slot < slotsOf (c .table .0) (v .table (c .table .0))
-
--- it is a sector under that pointer, between the system zones
-pub record OnSector (v : View) (c : Spot) : Type 0 where
-  pub table' : OnTable v c
-  pub off' : c .off < spotCount v c
-  pub from : 1024 ≤ spotStart v c
-  pub to : spotStart v c + spotCount v c ≤ 1024 * (v .zones - 1)

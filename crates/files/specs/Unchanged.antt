@@ -13,7 +13,7 @@ pub record Untouched (v v' : View) (f : ℕ) : Type 0 where
   pub was : (j : ℕ) → 1 ≤ j → j ≤ v .indexes → fileOf j (v .table j) ≢ 0 → fileOf j (v .table j) ≢ f → v' .table j ≡ v .table j
   pub now : (j : ℕ) → 1 ≤ j → j ≤ v .indexes → fileOf j (v' .table j) ≢ 0 → fileOf j (v' .table j) ≢ f → v' .table j ≡ v .table j
 
--- file f has its sectors where it had them; it may have more behind them
+-- file f has its sectors where it had them; it may have more after them
 pub record SamePlaces (v v' : View) (f : ℕ) : Type 0 where
   pub most : fileSectors v f ≤ fileSectors v' f
   pub place : (k : ℕ) → k < fileSectors v f → kthSector v' f k ≡ kthSector v f k

@@ -1,4 +1,4 @@
-// The lower part's last third, what is done with a file that stands: its sectors in order, moved to and from the body, and given back.
+// What is done with a file that stands: its sectors in order, moved to and from the body, and given back.
 pub mod release;
 pub mod sectors;
 pub mod spot;

@@ -1,30 +1,27 @@
 // A file given back: its sectors and its tables are free.
 use crate::zones::recount_zones;
 use allocation::last::last_table;
-use allocation::table::table_place;
-use field::numbers::put_u32;
-use field::parts::copy;
-use field::parts::fill;
-use field::runs::set_bits;
 use tables::index::base;
+use tables::index::erase;
 use tables::index::link;
 use tables::index::pointer_at;
+use tables::index::put_link;
 use tables::index::slots;
 use tables::index::table;
 use tables::kinds::Index;
 use tables::places::Places;
+use tables::sector::put_sectors;
 use tables::sector1;
 ghost use mathlib.Core.Path.{_≡_};
 ghost use Prim.Native.Nat.{_+_, _≤_, _<_};
 ghost use lib.ListN.{length};
-ghost use Rattle.tables.specs.Indexes.{tableAt, slotsOf};
+ghost use Rattle.tables.specs.Indexes.{tableAt, attributeOf, deletedBit, slotsOf};
 ghost use Rattle.tables.specs.Lawful.{Lawful};
 ghost use Rattle.tables.specs.Places.{Layout};
 ghost use Rattle.tables.specs.Sector1.{deletedOf, freeOf};
 ghost use Rattle.tables.specs.Views.{viewOf, Parent};
-ghost use Rattle.tables.specs.Indexes.{attributeOf};
-ghost use Rattle.tables.specs.Rules.R9.{deletedBit};
-ghost use Rattle.files.specs.Release.{clearRuns, freeTable, freeTables, fileTables, putFreed, freedFile, released, RunsWithin};
+ghost use Rattle.files.specs.Release.{chainOf, fileTables, clearRuns, freeTable, freeTables, putFreed, freedFile, released};
+ghost use Rattle.files.specs.Asked.{RunsWithin};
 
 // Frees the sectors under the pointers of table i.
 fn clear_runs(b: &mut [u8], p: Places, i: Index)
@@ -38,7 +35,7 @@ fn clear_runs(b: &mut [u8], p: Places, i: Index)
     let mut j: usize = 0;
     while j < n {
         let q = pointer_at(table(b, p, i), at + 6 * j);
-        set_bits(b, p.sectortable, q.start.0 as usize, q.count as usize, 0);
+        put_sectors(b, p, q.start, q.count, 0);
         j += 1;
     }
 }
@@ -51,7 +48,7 @@ fn free_table(b: &mut [u8], p: Places, i: Index)
     ensures { λ _. ⌜ now (b .exit) ≡ freeTable p (now (b .entry)) (i .0) ⌝ }
 {
     clear_runs(b, p, i);
-    fill(b, table_place(p, i), 124, 0);
+    erase(b, p, i, 124);
 }
 
 // Frees the tables of file f, and counts them.
@@ -59,7 +56,7 @@ fn free_tables(b: &mut [u8], p: Places, f: Index) -> u32
     requires { ⌜ Layout p (length (now b)) ⌝ }
     requires { ⌜ Lawful p (now b) ⌝ }
     requires { ⌜ Parent (viewOf p (now b)) (f .0) ⌝ }
-    ensures { λ r. ⌜ (r ≡ fileTables (viewOf p (now (b .entry))) (f .0)) × (now (b .exit) ≡ freeTables p (now (b .entry)) (f .0) r) × (r ≤ 4096) ⌝ }
+    ensures { λ r. ⌜ (r ≡ fileTables (viewOf p (now (b .entry))) (f .0)) × (now (b .exit) ≡ freeTables p (now (b .entry)) (chainOf (viewOf p (now (b .entry))) (f .0))) × (r ≤ 4096) ⌝ }
 {
     let mut i = f.0;
     let mut n: u32 = 0;
@@ -80,10 +77,10 @@ fn put_freed(b: &mut [u8], f: Index, n: u32, date: &[u8])
 {
     let deleted = sector1::deleted_files(b) - 1;
     let free = sector1::free_indexes(b) + n;
-    put_u32(b, 1032, deleted);
-    put_u32(b, 1036, free);
-    put_u32(b, 1050, f.0);
-    copy(b, 1044, date);
+    sector1::put_deleted(b, deleted);
+    sector1::put_free(b, free);
+    sector1::put_first_free(b, f);
+    sector1::put_latest(b, date);
 }
 
 // The file's tables in order before the old free chain.
@@ -98,7 +95,7 @@ fn free_file(b: &mut [u8], p: Places, f: Index, date: &[u8])
     let first = sector1::first_free(b);
     let last = last_table(b, p, f);
     let n = free_tables(b, p, f);
-    put_u32(b, table_place(p, last) + 124, first);
+    put_link(b, p, last, first);
     put_freed(b, f, n, date);
 }
 

@@ -1,4 +1,5 @@
 // Sectors moved between a buffer and the body, one at a time, along the file's pointers.
+use crate::spot::Spot;
 use crate::spot::onward;
 use crate::spot::sector_of;
 use crate::spot::seek;
@@ -7,12 +8,14 @@ use tables::kinds::Index;
 use tables::kinds::Sector;
 use tables::places::Places;
 ghost use mathlib.Core.Path.{_≡_};
-ghost use Prim.Native.Nat.{_-_, _*_, _≤_, _<_};
+ghost use Prim.Native.Nat.{_+_, _-_, _*_, _≤_};
 ghost use lib.ListN.{length};
 ghost use Rattle.tables.specs.Places.{Layout};
 ghost use Rattle.tables.specs.Lawful.{Lawful};
 ghost use Rattle.tables.specs.Views.{viewOf};
-ghost use Rattle.files.specs.Moves.{exchanged, moved, bodyPlace, sectorContent, filled, fetched, Movable};
+ghost use Rattle.files.specs.Spots.{spotStart};
+ghost use Rattle.files.specs.Asked.{OnSector};
+ghost use Rattle.files.specs.Moves.{exchanged, moved, bodyPlace, filled, fetched, Movable};
 
 // Byte pairs exchanged.
 fn exchange_sector(dst: &mut [u8], src: &[u8])
@@ -47,14 +50,13 @@ pub fn body_place(s: Sector) -> usize
     1024 * (s.0 as usize - 1024)
 }
 
-// The sector as it lies in the body.
-pub fn body_sector(body: &[u8], s: Sector) -> &[u8]
-    requires { ⌜ (1024 ≤ s .0) × (1024 * (s .0 - 1023) ≤ length (now body)) ⌝ }
-    ensures { λ r. ⌜ (now r ≡ sectorContent (now (body .entry)) (s .0)) × (length (now r) ≡ 1024) ⌝ }
+// Where the spot's sector begins in the body.
+fn spot_place(b: &[u8], p: Places, c: Spot) -> usize
+    requires { ⌜ Layout p (length (now b)) ⌝ }
+    requires { ⌜ OnSector (viewOf p (now b)) c ⌝ }
+    ensures { λ r. ⌜ (r ≡ bodyPlace (spotStart (viewOf p (now (b .entry))) c + c .off)) × (r + 1024 ≤ 1048576 * (p .zones - 2)) ⌝ }
 {
-    let a = body_place(s);
-    let e = a + 1024;
-    &body[a..e]
+    body_place(sector_of(b, p, c))
 }
 
 // Writes n sectors of the input to the body, from the k-th sector of file f on.
@@ -76,7 +78,7 @@ pub fn write_sectors(
     let mut c = seek(b, p, f, k);
     let mut i: u32 = 0;
     while i < n {
-        let a = body_place(sector_of(b, p, c));
+        let a = spot_place(b, p, c);
         let e = a + 1024;
         let from = 1024 * (i as usize);
         let to = from + 1024;
@@ -105,13 +107,11 @@ pub fn read_sectors(
     let mut c = seek(b, p, f, k);
     let mut i: u32 = 0;
     while i < n {
+        let a = spot_place(b, p, c);
+        let e = a + 1024;
         let from = 1024 * (i as usize);
         let to = from + 1024;
-        move_sector(
-            &mut out[from..to],
-            body_sector(body, sector_of(b, p, c)),
-            exchange,
-        );
+        move_sector(&mut out[from..to], &body[a..e], exchange);
         c = onward(b, p, c);
         i += 1;
     }

@@ -15,7 +15,8 @@ ghost use Rattle.tables.specs.Places.{Layout};
 ghost use Rattle.tables.specs.Lawful.{Lawful};
 ghost use Rattle.tables.specs.Rules.R8.{fileSectors};
 ghost use Rattle.tables.specs.Views.{viewOf, Parent};
-ghost use Rattle.files.specs.Spots.{spotStart, spotCount, moreAt, nextRun, onward, spotOf, OnTable, OnSector};
+ghost use Rattle.files.specs.Spots.{spotStart, spotCount, moreAt, nextRun, onward, spotOf};
+ghost use Rattle.files.specs.Asked.{OnTable, OnSector};
 
 // A sector under a pointer: the table, the pointer's number in it, and the sectors before it under the same pointer.
 pub struct Spot {

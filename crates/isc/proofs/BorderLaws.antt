@@ -1,4 +1,4 @@
--- The C border: what a request answered, handed back by number, pointer and buffer. Assumes nothing.
+-- The C border: what a request answered, handed back by number, pointer and buffer.
 use mathlib.Core.Path.{_≡_, refl, sym, ap, _∙_}
 use mathlib.Core.Bool.{Bool}
 use mathlib.Core.List.{List}
@@ -8,11 +8,9 @@ use native.Mathlib.Omega.{arith}
 use lib.ListN.{length, take}
 use lib.IntN.{ℤ}
 use Rattle.field.specs.Parts.{over}
-use Rattle.tables.specs.declared.kinds.Index.{Index}
 use Rattle.tables.specs.declared.kinds.Sector.{Sector}
 use Rattle.requests.specs.declared.answer.Answer.{Answer}
 use Rattle.requests.specs.declared.create.Created.{Created}
-use Rattle.requests.specs.declared.create.Created.the-variants.{Done, Refused as NotMade}
 use Rattle.requests.specs.declared.locate.Located.{Located}
 use Rattle.requests.specs.declared.locate.Located.the-variants.{At, Refused as NotLocated}
 use Rattle.requests.specs.declared.space.Space.{Space}
@@ -22,10 +20,11 @@ use Rattle.requests.specs.declared.amount.Amount.{Amount}
 use Rattle.tables.specs.Format.{Label}
 use Rattle.requests.specs.Amounts.{amountOf}
 use Rattle.requests.specs.Format.{Formatted}
+use Rattle.tables.specs.Gates.{Test}
 use Rattle.tables.specs.Books.{bookTests}
 use Rattle.tables.proofs.GateLaws.{gate-one}
 use Rattle.requests.specs.Space.{Spaced, numberOf, sectorsValue, usedValue}
-use Rattle.requests.proofs.MountLaws.{spaced-one}
+use Rattle.requests.proofs.SpaceLaws.{spaced-one}
 use Rattle.requests.specs.Report.{reportOf, Reported}
 use Rattle.requests.proofs.ReportLaws.{text-length, text-part}
 use Rattle.tables.specs.declared.counts.Chosen.{Chosen}
@@ -36,7 +35,7 @@ use Rattle.requests.proofs.CreateLaws.{creates-one}
 use Rattle.requests.specs.Grow.{Grew}
 use Rattle.requests.specs.Answers.{numberOf as answerNumber, valueOf}
 use Rattle.requests.specs.Search.{Searched}
-use Rattle.requests.proofs.SearchLaws.{searched-one}
+use Rattle.requests.proofs.SearchRequestLaws.{searched-one}
 use Rattle.requests.specs.Listing.{Listed}
 use Rattle.requests.proofs.ListLaws.{listed-one}
 use Rattle.requests.specs.Locate.{numberOf as locatedNumber, sectorValue, Locates}
@@ -75,11 +74,9 @@ report-copies b text t l h = omega (arith, ap length (text-part (reportOf (h .nu
 pub format-border : (b b' : List ℕ) (x y : ℤ) (z n : Amount) (l : Label) (r : ℕ) → z ≡ amountOf x → n ≡ amountOf y → Formatted b z n l r b' → Formatted b (amountOf x) (amountOf y) l r b'
 format-border b b' x y z n l r e f h = rw (← e, ← f) h
 
-pub create-done : (P : Created → Type 0) (made : Created) (i : Index) → P made → made ≡ Done i → CreateOut P 0 (i .0)
-create-done P made i h e = record { answer = Done i; holds = rw e at h; number = refl; value = refl }
-
-pub create-no : (P : Created → Type 0) (made : Created) (n : ℕ) → P made → made ≡ NotMade n → CreateOut P n 0
-create-no P made n h e = record { answer = NotMade n; holds = rw e at h; number = refl; value = refl }
+-- a create's promise with the number and the id that `hand_back_id` gives
+pub create-out : (P : Created → Type 0) (made : Created) (r id : ℕ) → P made → (r ≡ createdNumber made) × (id ≡ idValue made) → CreateOut P r id
+create-out P made r id h e = record { answer = made; holds = h; number = e .0; value = e .1 }
 
 pub fixed-border : (b b' name date : List ℕ) (x flag : ℤ) (kind : ℕ) (size : Amount) (types : Chosen) (made : Created) → size ≡ amountOf x → types ≡ chosenTypes flag → CreatedFixed b name size types kind date made b' → CreatedFixed b name (amountOf x) (chosenTypes flag) kind date made b'
 fixed-border b b' name date x flag kind size types made e d h = rw (← e, ← d) h
@@ -109,10 +106,10 @@ write-border b b' body body' input date id x y at long exchange r e f h = rw (�
 
 -- ---- one result
 
-pub create-one : (b : List ℕ) (P : Type 0) (counts : List ℕ) (new : New) (x y : List ℕ) (r r' id id' : ℕ)
-    → CreateOut (λ answer. Creates b P counts new answer x) r id → CreateOut (λ answer. Creates b P counts new answer y) r' id' → (r ≡ r') × (id ≡ id') × (x ≡ y)
-create-one b P counts new x y r r' id id' h k =
-    let e = creates-one b P counts new (h .answer) (k .answer) x y (h .holds) (k .holds) in
+pub create-one : (tests : List Test) (b counts : List ℕ) (new : New) (x y : List ℕ) (r r' id id' : ℕ)
+    → CreateOut (λ answer. Creates tests b counts new answer x) r id → CreateOut (λ answer. Creates tests b counts new answer y) r' id' → (r ≡ r') × (id ≡ id') × (x ≡ y)
+create-one tests b counts new x y r r' id id' h k =
+    let e = creates-one tests b counts new (h .answer) (k .answer) x y (h .holds) (k .holds) in
     (h .number ∙ ap createdNumber (e .0) ∙ sym (k .number), h .value ∙ ap idValue (e .0) ∙ sym (k .value), e .1)
 
 -- promises P and Q that allow one answer, and S of what else they leave

@@ -31,7 +31,7 @@ ghost use Rattle.tables.specs.Counts.{chosenTypes};
 ghost use Rattle.tables.specs.Gates.{Gate};
 ghost use Rattle.requests.specs.Amounts.{amountOf};
 ghost use Rattle.requests.specs.Answers.{numberOf, valueOf};
-ghost use Rattle.requests.specs.Create.{CreatedFixed, CreatedVariable};
+ghost use Rattle.requests.specs.Create.{numberOf as createdNumber, idValue, CreatedFixed, CreatedVariable};
 ghost use Rattle.requests.specs.Delete.{Deleted};
 ghost use Rattle.requests.specs.Format.{Formatted};
 ghost use Rattle.requests.specs.Grow.{Grew};
@@ -77,6 +77,22 @@ pub extern "C" fn isc_dismount(books: &mut [u8]) -> u32
     dismount(books)
 }
 
+// Hands back what a create answers.
+fn hand_back_id(made: Created, id: &mut u32) -> u32
+    ensures { λ r. ⌜ (r ≡ createdNumber made) × (now (id .exit) ≡ idValue made) ⌝ }
+{
+    match made {
+        Created::Done(i) => {
+            *id = i.0;
+            0
+        }
+        Created::Refused(n) => {
+            *id = 0;
+            n
+        }
+    }
+}
+
 #[no_mangle]
 pub extern "C" fn isc_create_fixed(
     books: &mut [u8],
@@ -90,16 +106,7 @@ pub extern "C" fn isc_create_fixed(
     ensures { λ r. ⌜ CreateOut (λ answer. CreatedFixed (now (books .entry)) (now (name .entry)) (amountOf size) (chosenTypes flag) kind (now (date .entry)) answer (now (books .exit))) r (now (id .exit)) ⌝ }
 {
     let made = create_fixed(books, name, amount_of(size), chosen_types(flag), kind, date);
-    match made {
-        Created::Done(i) => {
-            *id = i.0;
-            0
-        }
-        Created::Refused(n) => {
-            *id = 0;
-            n
-        }
-    }
+    hand_back_id(made, id)
 }
 
 #[no_mangle]
@@ -114,16 +121,7 @@ pub extern "C" fn isc_create_variable(
     ensures { λ r. ⌜ CreateOut (λ answer. CreatedVariable (now (books .entry)) (now (name .entry)) (amountOf cell) kind (now (date .entry)) answer (now (books .exit))) r (now (id .exit)) ⌝ }
 {
     let made = create_variable(books, name, amount_of(cell), kind, date);
-    match made {
-        Created::Done(i) => {
-            *id = i.0;
-            0
-        }
-        Created::Refused(n) => {
-            *id = 0;
-            n
-        }
-    }
+    hand_back_id(made, id)
 }
 
 #[no_mangle]

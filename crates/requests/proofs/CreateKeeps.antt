@@ -1,4 +1,4 @@
--- Create fixed, create variable and grow keep the books good: the rules hold of the books afterwards, at the same places. Assumes nothing.
+-- Create fixed, create variable and grow keep the books good: the rules hold of the books afterwards, at the same places.
 use mathlib.Core.Path.{_≡_, refl}
 use mathlib.Core.List.{List, [], _∷_}
 use Prim.Native.Nat.{ℕ, _+_, _*_, _≤_, _<_}
@@ -13,18 +13,18 @@ use Rattle.tables.specs.Books.{Good}
 use Rattle.tables.specs.Counts.{countsOf, Countable}
 use Rattle.tables.specs.Dates.{Date}
 use Rattle.tables.specs.Gates.{Gate}
-use Rattle.tables.specs.Indexes.{lengthOf, attributeOf}
+use Rattle.tables.specs.Indexes.{lengthOf, attributeOf, variableBit}
 use Rattle.tables.specs.Places.{placesOf}
 use Rattle.tables.specs.Views.{View, viewOf, Parent}
-use Rattle.tables.specs.Rules.R8.{fileType, fileSectors, variableBit}
+use Rattle.tables.specs.Rules.R8.{fileType, fileSectors}
 use Rattle.tables.proofs.CountsLaws.{counts-six, counts-enough}
 use Rattle.tables.proofs.GateLaws.{gate-rest, gate-front}
 use Rattle.allocation.specs.Choice.{inOrder}
-use Rattle.allocation.specs.Tails.{noPointer}
+use Rattle.allocation.specs.NextPointer.{noPointer}
 use Rattle.allocation.specs.NewTables.{New}
 use Rattle.allocation.specs.Lengthened.{sectorsIn, AllOf}
 use Rattle.allocation.specs.NewLawful.{NewLawful}
-use Rattle.allocation.specs.Files.{onlyCounts, blocksFor, Provided, created, grown}
+use Rattle.allocation.specs.MadeFiles.{onlyCounts, blocksFor, Provided, created, grown}
 use Rattle.allocation.proofs.FileLaws.{length-only, order-only, ready-start, ready-grow}
 use Rattle.allocation.proofs.HeldLawful.{quiet-good, many-sectors, supplied-sectors, all-only}
 use Rattle.allocation.proofs.CreatedLawful.{created-lawful, created-quiet}
@@ -32,13 +32,17 @@ use Rattle.allocation.proofs.GrownLawful.{grown-lawful, grown-quiet, blocks-eno
 use Rattle.requests.specs.declared.amount.Amount.{Amount}
 use Rattle.requests.specs.declared.amount.Amount.the-variants.{Below, Is}
 use Rattle.requests.specs.declared.create.Created.{Created}
-use Rattle.requests.specs.Format.{sizeOf}
-use Rattle.requests.specs.Create.{argumentTests, NewFile, numberOf, Creates, attributeFor, FixedAllowed, countsFor, CreatedFixed, cellType, VariableAllowed, CreatedVariable}
+use Rattle.requests.specs.Amounts.{amountValue}
+use Rattle.requests.specs.Create.{NewFile, numberOf, Creates, attributeFor, FixedAllowed, countsFor, CreatedFixed, cellType, VariableAllowed, CreatedVariable}
+use Rattle.requests.specs.Answers.{argumentTests}
 use Rattle.requests.specs.Named.{fileBytes}
 use Rattle.requests.specs.Grow.{growCounts, lackTests, growTests, grownTo, Grew}
-use Rattle.requests.proofs.MountKeeps.{done-keeps}
-use Rattle.requests.proofs.CreateLaws.{argument-allowed, room-provides}
-use Rattle.requests.proofs.GrowLaws.{lack-provided, not-below, grow-allows, grow-parent, grow-variable, grow-room}
+use Rattle.requests.proofs.RequestLaws.{done-keeps}
+use Rattle.requests.proofs.RoomNumberLaws.{room-provides}
+use Rattle.requests.proofs.ArgumentLaws.{argument-allowed}
+use Rattle.requests.proofs.GrowLaws.{grow-allows, grow-parent, grow-variable, grow-room}
+use Rattle.requests.proofs.AmountLaws.{signed-most}
+use Rattle.requests.proofs.LongerLaws.{lack-provided}
 
 -- ---- a new file
 
@@ -49,14 +53,14 @@ made-keeps b p n counts g h new =
 
 -- both creates, done: where the arguments are allowed the file is lawful, and there is all that it takes
 pub creates-asks : (b : List ℕ) (P : Type 0) (counts : List ℕ) (n : New) (r : Created) (b' : List ℕ) → Good b (placesOf b) → (P → NewLawful n counts × (length counts ≡ 6))
-    → Creates b P counts n r b' → numberOf r ≡ 0 → NewLawful n counts × Provided (placesOf b) b noPointer counts
+    → Creates (argumentTests b P) b counts n r b' → numberOf r ≡ 0 → NewLawful n counts × Provided (placesOf b) b noPointer counts
 creates-asks b P counts n r b' g new h z =
     let q = rw z at (h .number) in
     let a = new (argument-allowed b P 0 (gate-front (argumentTests b P) _ q) refl) in
     (a .0, room-provides b (placesOf b) noPointer counts 0 g (a .1) (gate-rest (argumentTests b P) _ q) refl)
 
 creates-keeps : (b : List ℕ) (P : Type 0) (counts : List ℕ) (n : New) (r : Created) (b' : List ℕ) (p : Places)
-    → (P → NewLawful n counts × (length counts ≡ 6)) → Creates b P counts n r b' → Good b p → Good b' p
+    → (P → NewLawful n counts × (length counts ≡ 6)) → Creates (argumentTests b P) b counts n r b' → Good b p → Good b' p
 creates-keeps b P counts n r b' p new h g =
     done-keeps (numberOf r) (created (placesOf b) b n counts) b b' p (h .books) (λ z.
     (let here : Good b (placesOf b) = rw (g .places) at g in
@@ -89,12 +93,12 @@ sectors-some [] h = absurd (omega arith)
 sectors-some (t ∷ ts) h = omega arith
 
 pub fixed-lawful : (name : List ℕ) (size : Amount) (types : Chosen) (kind : ℕ) (date : List ℕ) → FixedAllowed name size types kind date
-    → NewLawful (record { name = name; date = date; length = sizeOf size; attribute = attributeFor 0 kind }) (countsFor types size) × (length (countsFor types size) ≡ 6)
-fixed-lawful name Below types kind date a = absurd (a .size')
-fixed-lawful name (Is n) Bad kind date a = absurd (a .types')
+    → NewLawful (record { name = name; date = date; length = amountValue size; attribute = attributeFor 0 kind }) (countsFor types size) × (length (countsFor types size) ≡ 6)
+fixed-lawful name Below (Types w) kind date a = absurd (a .counted)
+fixed-lawful name Below Bad kind date a = absurd (a .counted)
+fixed-lawful name (Is n) Bad kind date a = absurd (a .counted)
 fixed-lawful name (Is n) (Types w) kind date a =
-    let u = a .types' in
-    let c : Countable w n = record { weights = u .fours; some = u .some; six = u .six; low = a .size' .0; high = a .size' .1 } in
+    let c : Countable w n = a .counted in
     let most : n ≤ 1024 * sectorsIn (inOrder (countsOf w n)) = omega (arith, counts-enough w n c, supplied-sectors (countsOf w n)) in (
       new-lawful name kind date 0 n (countsOf w n) (a .file) (omega arith) (omega (arith, c .high)) most (λ z. c .low) (λ z. absurd (omega arith))
           (sectors-some (inOrder (countsOf w n)) (omega arith)),
@@ -153,8 +157,8 @@ module _ (b : List ℕ) (id long : ℕ) (date : List ℕ) (g : Good b (placesOf 
 -- README's promise 3, "the nine book rules still hold": after grow
 pub grew-keeps : (b : List ℕ) (id : ℕ) (long : Amount) (date : List ℕ) (r : ℕ) (b' : List ℕ) (p : Places) → Grew b id long date r b' → Good b p → Good b' p
 grew-keeps b id long date r b' p h g =
-    done-keeps r (grownTo b id (sizeOf long) date) b b' p (h .books) (λ z.
+    done-keeps r (grownTo b id (amountValue long) date) b b' p (h .books) (λ z.
     (let q : Gate (growTests b id long date) 0 = rw z at (h .number) in
     let a = grow-allows b id long date 0 q refl in
-    rw (g .places) (grown-keeps b id (sizeOf long) date (rw (g .places) at g) (grow-parent b id long date 0 q refl) (grow-room b id long date 0 q refl (sizeOf long) refl) (a .date')
-    (λ l. (grow-variable b id long date 0 q refl, omega (arith, not-below long (a .long'))))))) g
+    rw (g .places) (grown-keeps b id (amountValue long) date (rw (g .places) at g) (grow-parent b id long date 0 q refl) (grow-room b id long date 0 q refl (amountValue long) refl) (a .date')
+    (λ l. (grow-variable b id long date 0 q refl, omega (arith, signed-most long (a .long'))))))) g

@@ -1,25 +1,20 @@
--- Actual delete: each way out, that its promise allows one result, and that it keeps the books good. Assumes nothing.
-use mathlib.Core.Path.{_≡_, refl, ap, _∙_}
+-- Actual delete: each way out, and that its promise allows one result.
+use mathlib.Core.Path.{_≡_, ap, _∙_}
 use mathlib.Core.Logic.{_≢_}
 use mathlib.Core.List.{List}
 use Prim.Native.Nat.{ℕ}
 use lib.ListN.{length}
 use Rattle.tables.specs.declared.places.Places.{Places}
-use Rattle.tables.specs.Books.{Good}
 use Rattle.tables.specs.Gates.{Gate}
-use Rattle.tables.specs.Indexes.{tableAt, attributeOf}
+use Rattle.tables.specs.Indexes.{tableAt, attributeOf, deletedBit}
 use Rattle.tables.specs.Lawful.{Lawful}
 use Rattle.tables.specs.Places.{placesOf, Layout}
-use Rattle.tables.specs.Rules.R9.{deletedBit}
 use Rattle.tables.specs.Views.{viewOf, Parent}
 use Rattle.tables.proofs.GateLaws.{gate-one}
-use Rattle.allocation.proofs.HeldLawful.{quiet-good}
 use Rattle.files.specs.Release.{released}
-use Rattle.files.proofs.ReleasedLawful.{released-quiet, released-lawful}
 use Rattle.requests.specs.State.{recoverTests}
 use Rattle.requests.specs.Delete.{Deleted}
 use Rattle.requests.proofs.RequestLaws.{after-refused, after-one}
-use Rattle.requests.proofs.MountKeeps.{done-keeps}
 use Rattle.requests.proofs.StateLaws.{recover-asks}
 
 module _ (b : List ℕ) (id : ℕ) (date : List ℕ) (n : ℕ) (g : Gate (recoverTests b id date) n) where
@@ -40,16 +35,3 @@ pub deleted-one : (b : List ℕ) (id : ℕ) (date : List ℕ) (r s : ℕ) (x y :
 deleted-one b id date r s x y h k =
     let e = gate-one (recoverTests b id date) r s (h .number) (k .number) in
     (e, after-one r s x y _ b e (h .books) (k .books))
-
--- ---- the promise
-
--- README's promise 3, "the nine book rules still hold": after actual delete
-pub deleted-keeps : (b : List ℕ) (id : ℕ) (date : List ℕ) (r : ℕ) (b' : List ℕ) (p : Places) → Good b p → Deleted b id date r b' → Good b' p
-deleted-keeps b id date r b' p g h =
-    done-keeps r (released (placesOf b) b id date) b b' p (h .books) (λ z.
-    (let q = placesOf b in
-    let good = recover-asks b id date r (h .number) z q refl .0 in
-    let file = recover-asks b id date r (h .number) z q refl .1 in
-    rw (g .places) (quiet-good b (released q b id date) q good
-    (released-quiet q b (good .layout) (good .lawful) id (file .0) (file .1 .0) date (file .1 .1))
-    (released-lawful q b (good .layout) (good .lawful) id (file .0) (file .1 .0) date (file .1 .1))))) g

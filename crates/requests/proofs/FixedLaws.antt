@@ -1,8 +1,8 @@
--- The arguments of create fixed and of create variable, and how both end. Assumes nothing.
+-- The arguments of create fixed and of create variable, and how both end.
 use mathlib.Core.Path.{_≡_, refl, sym, ap, _∙_}
 use mathlib.Core.Logic.{_≢_}
 use mathlib.Core.Bool.{Bool, not, true, false}
-use mathlib.Core.List.{List}
+use mathlib.Core.List.{List, []}
 use Prim.Native.Nat.{ℕ, _+_, _*_, _%_, _≤_, _<_}
 use native.Mathlib.Omega.{arith}
 use lib.Dec.{eqb, leb}
@@ -15,14 +15,16 @@ use Rattle.tables.specs.Blocks.{Typed, blockOf}
 use Rattle.tables.specs.Counts.{countsOf, blockBytes, Countable}
 use Rattle.tables.specs.Gates.{Gate}
 use Rattle.tables.proofs.CountsLaws.{bytes-high}
-use Rattle.allocation.specs.Files.{onlyCounts}
-use Rattle.allocation.proofs.SearchLaws.{search-hit, search-more, search-end}
+use Rattle.allocation.specs.MadeFiles.{onlyCounts}
+use Rattle.allocation.proofs.FindLaws.{search-hit, search-more, search-end}
 use Rattle.requests.specs.declared.amount.Amount.{Amount}
 use Rattle.requests.specs.declared.amount.Amount.the-variants.{Below, Is}
 use Rattle.requests.specs.declared.create.Created.{Created}
-use Rattle.requests.specs.Format.{sizeOf}
-use Rattle.requests.specs.Create.{argumentTests, NewFile, attributeFor, MakesFile, SizeAllowed, Weights, FlagAllowed, FixedAllowed, countsFor, CreatedFixed, cellType, VariableAllowed, CreatedVariable}
-use Rattle.requests.proofs.CreateLaws.{argument-says, argument-allowed, create-ends}
+use Rattle.requests.specs.Amounts.{amountValue}
+use Rattle.requests.specs.Create.{NewFile, attributeFor, Creates, FixedAllowed, countsFor, CreatedFixed, cellType, VariableAllowed, CreatedVariable, HasCounts}
+use Rattle.requests.specs.Answers.{argumentTests}
+use Rattle.requests.proofs.CreateLaws.{create-ends}
+use Rattle.requests.proofs.ArgumentLaws.{argument-says, argument-allowed}
 
 -- a test a ≤ b says what it is equivalent to
 pub le-says : (P : Type 0) (a b : ℕ) → (a ≤ b → P) → (P → a ≤ b) → Says (leb a b) P
@@ -32,43 +34,28 @@ le-says P a b f g = go (leb a b) refl
     go true e = f (leb-true a b e)
     go false e = λ p. omega (arith, leb-false a b e, g p)
 
--- ---- size and flag
+-- ---- types and size
 
-module _ (size : Amount) where
-  pub size-below : size ≡ Below → SizeAllowed size → ⊥
-  size-below e h = rw e at h
+module _ (w n : ℕ) where
+  pub countable-says : w % 4 ≡ 0 → 4 ≤ w → w ≤ 252 → n ≤ 2147483647 → Says (leb 1 n) (Countable w n)
+  countable-says e l h k = le-says (Countable w n) 1 n (λ o. record { weights = e; some = l; six = h; low = o; high = k }) (λ c. c .low)
 
-  pub size-beyond : (n : ℕ) → size ≡ Is n → 2147483647 < n → SizeAllowed size → ⊥
-  size-beyond n e l h = let k : (1 ≤ n) × (n ≤ 2147483647) = rw e at h in omega (arith, k .1)
-
-  pub size-says : (n : ℕ) → size ≡ Is n → n ≤ 2147483647 → Says (leb 1 n) (SizeAllowed size)
-  size-says n e l = rw e (le-says ((1 ≤ n) × (n ≤ 2147483647)) 1 n (λ h. (h, l)) (λ h. h .0))
+pub size-below : (types : Chosen) (size : Amount) → size ≡ Below → HasCounts types size → ⊥
+size-below (Types w) size e h = rw e at h
+size-below Bad size e h = h
 
 module _ (types : Chosen) where
-  pub types-bad : types ≡ Bad → FlagAllowed types → ⊥
-  types-bad e h = rw e at h
-
-  module _ (w : ℕ) (is : types ≡ Types w) where
-    weights : FlagAllowed types → Weights w
-    weights h = rw is at h
-
-    pub types-odd : w % 4 ≢ 0 → FlagAllowed types → ⊥
-    types-odd ne h = ne (weights h .fours)
-
-    pub types-none : w < 4 → FlagAllowed types → ⊥
-    types-none l h = omega (arith, weights h .some)
-
-    pub types-say : w % 4 ≡ 0 → 4 ≤ w → Says (leb w 252) (FlagAllowed types)
-    types-say e l = rw is (le-says (Weights w) w 252 (λ h. record { fours = e; some = l; six = h }) (λ h. h .six))
+  pub types-bad : (size : Amount) → types ≡ Bad → HasCounts types size → ⊥
+  types-bad size e h = rw e at h
 
   -- ---- counts
 
   module _ (size : Amount) where
-    pub counts-asks : (w n : ℕ) → types ≡ Types w → size ≡ Is n → SizeAllowed size → FlagAllowed types → Countable w n
-    counts-asks w n e s h f =
-        let k : (1 ≤ n) × (n ≤ 2147483647) = rw s at h in
-        let u = weights w e f in
-        record { weights = u .fours; some = u .some; six = u .six; low = k .0; high = k .1 }
+    pub counted-says : (r : Bool) (w n : ℕ) → types ≡ Types w → size ≡ Is n → Says r (Countable w n) → Says r (HasCounts types size)
+    counted-says r w n e s h = rw (e, s) h
+
+    pub counts-asks : (w n : ℕ) → types ≡ Types w → size ≡ Is n → HasCounts types size → Countable w n
+    counts-asks w n e s h = rw (e, s) at h
 
     pub counts-are : (w n : ℕ) (c : List ℕ) → types ≡ Types w → size ≡ Is n → c ≡ countsOf w n → c ≡ countsFor types size
     counts-are w n c e s h = rw (e, s) h
@@ -78,25 +65,21 @@ module _ (name : List ℕ) (size : Amount) (types : Chosen) (kind : ℕ) (date :
     pub fixed-file : not f ≡ true → FixedAllowed name size types kind date → ⊥
     fixed-file h a = refused f file h (a .file)
 
-    module _ (pass : not f ≡ false) (q : Bool) (sized : Says q (SizeAllowed size)) where
-      pub fixed-size : not q ≡ true → FixedAllowed name size types kind date → ⊥
-      fixed-size h a = refused q sized h (a .size')
-
-      pub fixed-says : (r : Bool) → not q ≡ false → Says r (FlagAllowed types) → Says r (FixedAllowed name size types kind date)
-      fixed-says r h s = says-map r (λ x. record { file = passed f file pass; size' = passed q sized h; types' = x }) (λ a. a .types') s
+    pub fixed-says : (r : Bool) → not f ≡ false → Says r (HasCounts types size) → Says r (FixedAllowed name size types kind date)
+    fixed-says r h s = says-map r (λ x. record { file = passed f file h; counted = x }) (λ a. a .counted) s
 
 module _ (b name : List ℕ) (size : Amount) (types : Chosen) (kind : ℕ) (date : List ℕ) (a : Bool) (s : Says a (FixedAllowed name size types kind date)) (n : ℕ) (g : Gate (argumentTests b (a ≡ true)) n) (e : n ≡ 0) where
   fixed-allowed : FixedAllowed name size types kind date
   fixed-allowed = argument-allowed b _ n (argument-says b a _ n s g) e
 
-  pub fixed-sized : SizeAllowed size × FlagAllowed types
-  fixed-sized = (fixed-allowed .size', fixed-allowed .types')
+  pub fixed-counted : HasCounts types size
+  fixed-counted = fixed-allowed .counted
 
   pub fixed-new : NewFile name kind date
   fixed-new = fixed-allowed .file
 
-  pub fixed-ends : (c : List ℕ) (x : ℕ) (r : Created) (b' : List ℕ) → c ≡ countsFor types size → x ≡ sizeOf size
-      → MakesFile b c (record { name = name; date = date; length = x; attribute = attributeFor 0 kind }) r b' → CreatedFixed b name size types kind date r b'
+  pub fixed-ends : (c : List ℕ) (x : ℕ) (r : Created) (b' : List ℕ) → c ≡ countsFor types size → x ≡ amountValue size
+      → Creates [] b c (record { name = name; date = date; length = x; attribute = attributeFor 0 kind }) r b' → CreatedFixed b name size types kind date r b'
   fixed-ends c x r b' are is m = create-ends b _ _ _ a s n g r b' e (rw (are, is) at m)
 
 -- ---- the cell
@@ -158,5 +141,5 @@ module _ (b name : List ℕ) (cell : Amount) (kind : ℕ) (date : List ℕ) (a :
   variable-new = variable-allowed .file
 
   pub variable-ends : (c : List ℕ) (t : ℕ) (r : Created) (b' : List ℕ) → c ≡ onlyCounts t 1 → t ≡ cellType cell
-      → MakesFile b c (record { name = name; date = date; length = 0; attribute = attributeFor 1 kind }) r b' → CreatedVariable b name cell kind date r b'
+      → Creates [] b c (record { name = name; date = date; length = 0; attribute = attributeFor 1 kind }) r b' → CreatedVariable b name cell kind date r b'
   variable-ends c t r b' are is m = create-ends b _ _ _ a s n g r b' e (rw (are, is) at m)

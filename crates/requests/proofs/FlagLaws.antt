@@ -1,25 +1,24 @@
--- A file's blocks leave the flag. Assumes nothing.
+-- A file's blocks leave the flag.
 use mathlib.Core.Path.{_≡_, refl, _∙_}
 use mathlib.Core.List.{List, [], _∷_}
 use Prim.Native.Nat.{ℕ}
-use native.Mathlib.Decide.{ℕ-discrete}
 use Rattle.tables.specs.declared.places.Places.{Places}
 use Rattle.tables.specs.Sector1.{flagOf}
 use Rattle.tables.specs.Views.{viewOf}
 use Rattle.allocation.specs.declared.growth.Cursor.{Cursor}
-use Rattle.allocation.specs.declared.tail.Tail.{Tail}
+use Rattle.allocation.specs.declared.tail.Pushed.{Pushed}
+use Rattle.allocation.specs.declared.tail.Pushed.the-variants.{Joined, Beside, Further}
 use Rattle.allocation.specs.Choice.{inTurn, nextBlock}
 use Rattle.allocation.specs.Growth.{Growth, pointed, addBlock}
 use Rattle.allocation.specs.Ready.{Ready}
-use Rattle.allocation.proofs.ReadyLaws.{Taking, add-is, laid-is, here-is, further-is, pointed-here, pointed-further, here-written, further-extended, ready-proper, step-taking, ready-step}
+use Rattle.allocation.proofs.ReadyLaws.{Taking, add-is, laid-is, here-is, further-is, pointed-joined, pointed-beside, pointed-further, here-written, further-extended, ready-proper, step-taking, ready-step}
 use Rattle.allocation.proofs.TakenLaws.{block-files}
 use Rattle.allocation.proofs.TurnLaws.{turn-none, turn-step}
 
-flag-pointed : (p : Places) (f : ℕ) (b : List ℕ) (c : Cursor) (l : Tail) (ts : List ℕ) → Taking p f b c l ts → flagOf (pointed p f b c l .books) ≡ flagOf b
-flag-pointed p f b c l ts h = elim (ℕ-discrete (l .tables) (c .tail .tables)) [
-  | yes e ↦ rw (pointed-here p f b c l e, here-is p f b c l) (here-written p f b c l ts h .counts .flag)
-  | no ne ↦ rw (pointed-further p f b c l ne, further-is p f b c l) (further-extended p f b c l ts h ne .counts .flag)
-]
+flag-pointed : (p : Places) (f : ℕ) (b : List ℕ) (c : Cursor) (r : Pushed) (ts : List ℕ) → Taking p f b c r ts → flagOf (pointed p f b c r .books) ≡ flagOf b
+flag-pointed p f b c (Joined l) ts h = rw (pointed-joined p f b c l, here-is p f b c l) (here-written p f b c (Joined l) ts h .counts .flag)
+flag-pointed p f b c (Beside l) ts h = rw (pointed-beside p f b c l, here-is p f b c l) (here-written p f b c (Beside l) ts h .counts .flag)
+flag-pointed p f b c (Further l) ts h = rw (pointed-further p f b c l, further-is p f b c l) (further-extended p f b c l ts h .counts .flag)
 
 pub flag-turn : (p : Places) (f : ℕ) (g : Growth) (ts : List ℕ) → Ready p f g ts → flagOf (inTurn (addBlock p f) ts g .books) ≡ flagOf (g .books)
 flag-turn p f g [] h = rw (turn-none (addBlock p f) g) refl

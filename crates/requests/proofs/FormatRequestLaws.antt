@@ -1,4 +1,4 @@
--- Format: what its tests know at each way out, that its promise has one outcome, and that fresh books are good. Assumes nothing.
+-- Format: what its tests know at each way out, that its promise has one outcome, and that fresh books are good.
 use mathlib.Core.Path.{_≡_, refl, sym, ap₂, _∙_}
 use mathlib.Core.Logic.{inl, inr, _≢_}
 use mathlib.Core.Bool.{Bool, not, true, false}
@@ -19,7 +19,8 @@ use Rattle.tables.proofs.PlaceLaws.{stand-layout}
 use Rattle.tables.proofs.FormatLaws.{format-length, format-marked, format-places, format-placed, format-lawful}
 use Rattle.requests.specs.declared.amount.Amount.{Amount}
 use Rattle.requests.specs.declared.amount.Amount.the-variants.{Below, Is}
-use Rattle.requests.specs.Format.{Fits, Texts, formatTests, sizeOf, Formatted}
+use Rattle.requests.specs.Format.{Fits, formatTests, Formatted}
+use Rattle.requests.specs.Amounts.{amountValue}
 use Rattle.requests.proofs.RequestLaws.{after-refused, after-one}
 
 -- ---- Z and N
@@ -44,17 +45,15 @@ indexes-below len Below n e = λ h. h
 pub fits-says : (r : Bool) (len x y : ℕ) (z n : Amount) → z ≡ Is x → n ≡ Is y → Says r (Formattable len x y) → Says r (Fits len z n)
 fits-says r len x y z n d e s = rw (d, e) s
 
-pub fits-sizes : (len : ℕ) (z n : Amount) → Fits len z n → Formattable len (sizeOf z) (sizeOf n)
+pub fits-sizes : (len : ℕ) (z n : Amount) → Fits len z n → Formattable len (amountValue z) (amountValue n)
 fits-sizes len (Is z) (Is n) h = h
 fits-sizes len (Is z) Below h = absurd h
 fits-sizes len Below n h = absurd h
 
 -- ---- texts and date
 
-pub texts-says : (r : Bool) (application volume owner code date : List ℕ) → length application ≤ 16 → length volume ≤ 32 → length owner ≤ 32 → length code ≤ 32
-    → Says r (Date date) → Says r (Texts application volume owner code date)
-texts-says r application volume owner code date a v o c s =
-    says-map r (λ d. record { app = a; vol = v; own = o; cod = c; day = d }) (λ t. t .day) s
+pub writable-says : (r : Bool) (l : Label) → length (l .application) ≤ 16 → length (l .volume) ≤ 32 → length (l .owner) ≤ 32 → length (l .code) ≤ 32 → Says r (Date (l .date)) → Says r (Writable l)
+writable-says r l a v o c s = says-map r (λ d. record { application = a; volume = v; owner = o; code = c; date = d }) (λ w. w .date) s
 
 -- ---- the number
 
@@ -65,11 +64,15 @@ module _ (b : List ℕ) (z n : Amount) (application volume : List ℕ) (id : ℕ
   abbrev label : Label
   label = record { application = application; volume = volume; id = id; owner = owner; code = code; date = date }
 
-  texts-writable : Texts application volume owner code date → Writable label
-  texts-writable t = record { application = t .app; volume = t .vol; owner = t .own; code = t .cod; date = t .day }
+  -- the same of any id
+  abbrev bare : Label
+  bare = record { application = application; volume = volume; id = 0; owner = owner; code = code; date = date }
 
-  writable-texts : Writable label → Texts application volume owner code date
-  writable-texts w = record { app = w .application; vol = w .volume; own = w .owner; cod = w .code; day = w .date }
+  with-id : Writable bare → Writable label
+  with-id w = record { application = w .application; volume = w .volume; owner = w .owner; code = w .code; date = w .date }
+
+  without-id : Writable label → Writable bare
+  without-id w = record { application = w .application; volume = w .volume; owner = w .owner; code = w .code; date = w .date }
 
   module _ (r : Bool) (s : Says r (Sized b)) where
     pub number-sized : not r ≡ true → Gate (formatTests b z n label) 1
@@ -81,14 +84,14 @@ module _ (b : List ℕ) (z n : Amount) (application volume : List ℕ) (id : ℕ
       unfolding Gate
       number-fits e = inl (passed r s pass, inr (refused q t e, refl, λ h. omega arith))
 
-      module _ (pass' : not q ≡ false) (v : Bool) (u : Says v (Texts application volume owner code date)) where
+      module _ (pass' : not q ≡ false) (v : Bool) (u : Says v (Writable bare)) where
         pub number-texts : not v ≡ true → Gate (formatTests b z n label) 7
         unfolding Gate
-        number-texts e = inl (passed r s pass, inl (passed q t pass', inr (λ w. refused v u e (writable-texts w), refl, λ h. omega arith)))
+        number-texts e = inl (passed r s pass, inl (passed q t pass', inr (λ w. refused v u e (without-id w), refl, λ h. omega arith)))
 
         pub number-none : not v ≡ false → Gate (formatTests b z n label) 0
         unfolding Gate
-        number-none e = inl (passed r s pass, inl (passed q t pass', inl (texts-writable (passed v u e), refl)))
+        number-none e = inl (passed r s pass, inl (passed q t pass', inl (with-id (passed v u e), refl)))
 
 -- ---- the request
 
@@ -102,13 +105,13 @@ zero-passes b z n l r g e =
 pub format-refused : (b : List ℕ) (z n : Amount) (l : Label) (r : ℕ) → Gate (formatTests b z n l) r → r ≢ 0 → Formatted b z n l r b
 format-refused b z n l r g h = record { number = g; books = after-refused r _ b h }
 
-pub format-asks : (b : List ℕ) (z n : Amount) (l : Label) (r x y : ℕ) → Gate (formatTests b z n l) r → r ≡ 0 → x ≡ sizeOf z → y ≡ sizeOf n
+pub format-asks : (b : List ℕ) (z n : Amount) (l : Label) (r x y : ℕ) → Gate (formatTests b z n l) r → r ≡ 0 → x ≡ amountValue z → y ≡ amountValue n
     → Formattable (length b) x y × (((5120 ≤ length b) × (length b ≤ 1048576)) × Writable l)
 format-asks b z n l r x y g e d f =
     let a = zero-passes b z n l r g e in
     (rw (d, f) (fits-sizes (length b) z n (a .1 .0)), ((a .0 .least, a .0 .most), a .1 .1))
 
-pub format-done : (b b' : List ℕ) (z n : Amount) (l : Label) (r x y : ℕ) → Gate (formatTests b z n l) r → r ≡ 0 → x ≡ sizeOf z → y ≡ sizeOf n
+pub format-done : (b b' : List ℕ) (z n : Amount) (l : Label) (r x y : ℕ) → Gate (formatTests b z n l) r → r ≡ 0 → x ≡ amountValue z → y ≡ amountValue n
     → b' ≡ formatted (length b) x y l → Formatted b z n l 0 b'
 format-done b b' z n l r x y g e d f h = record { number = rw e at g; books = h ∙ ap₂ (λ (i j : ℕ). formatted (length b) i j l) d f }
 
@@ -132,7 +135,7 @@ fresh-good b z n l s f w =
       lawful = format-lawful (length b) z n l (s .least) (s .most) f w;
     }
 
-pub formatted-good : (b : List ℕ) (z n : Amount) (l : Label) (b' : List ℕ) → Formatted b z n l 0 b' → Good b' (freshPlaces (sizeOf z) (sizeOf n))
+pub formatted-good : (b : List ℕ) (z n : Amount) (l : Label) (b' : List ℕ) → Formatted b z n l 0 b' → Good b' (freshPlaces (amountValue z) (amountValue n))
 formatted-good b z n l b' f =
     let a = zero-passes b z n l 0 (f .number) refl in
-    rw (f .books) (fresh-good b (sizeOf z) (sizeOf n) l (a .0) (fits-sizes (length b) z n (a .1 .0)) (a .1 .1))
+    rw (f .books) (fresh-good b (amountValue z) (amountValue n) l (a .0) (fits-sizes (length b) z n (a .1 .0)) (a .1 .1))

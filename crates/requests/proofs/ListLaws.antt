@@ -1,4 +1,4 @@
--- List: which files are listed, the entries made index by index, each way out, and that its promise allows one result. Assumes nothing.
+-- List: which files are listed, the entries made index by index, each way out, and that its promise allows one result.
 use mathlib.Core.Path.{_≡_, refl, sym, ap, ap₂, _∙_}
 use mathlib.Core.Logic.{_≢_}
 use mathlib.Core.Bool.{Bool, true, false, not, cond, _&&_}
@@ -21,13 +21,13 @@ use Rattle.tables.proofs.GateLaws.{gate-one}
 use Rattle.tables.proofs.IndexLaws.{length-table}
 use Rattle.requests.specs.declared.answer.Answer.{Answer}
 use Rattle.requests.specs.declared.answer.Answer.the-variants.{Done, Refused}
-use Rattle.requests.specs.Answers.{numberOf}
-use Rattle.requests.specs.Create.{argumentTests}
-use Rattle.requests.specs.Search.{isActive, passing}
+use Rattle.requests.specs.Answers.{numberOf, argumentTests}
+use Rattle.requests.specs.Active.{isActive, passing}
 use Rattle.requests.specs.Listing.{isListed, listed, fronts, Listed}
 use Rattle.requests.proofs.RequestLaws.{after-one, answers-one}
-use Rattle.requests.proofs.CreateLaws.{argument-says}
-use Rattle.requests.proofs.SearchLaws.{passing-next, over-front}
+use Rattle.requests.proofs.ArgumentLaws.{argument-says}
+use Rattle.requests.proofs.SearchRequestLaws.{over-front}
+use Rattle.requests.proofs.ActiveLaws.{passing-next}
 
 -- ---- one index
 

@@ -1,4 +1,4 @@
--- Locate and show: each way out, and that each promise allows one result. Assumes nothing.
+-- Locate and show: each way out, and that each promise allows one result.
 use mathlib.Core.Path.{_≡_, refl, sym, ap, _∙_}
 use mathlib.Core.Logic.{_≢_}
 use mathlib.Core.List.{List, [], _∷_, _++_}
@@ -15,7 +15,8 @@ use Rattle.tables.specs.Rules.R8.{fileSectors}
 use Rattle.tables.specs.Views.{viewOf, Parent}
 use Rattle.tables.proofs.GateLaws.{gate-one, gate-fails, gate-passes, gate-end, gate-stop, gate-skip, gate-rest, gate-head, gate-front}
 use Rattle.files.specs.declared.spot.Spot.{Spot}
-use Rattle.files.specs.Spots.{spotStart, spotOf, kthSector, OnSector}
+use Rattle.files.specs.Spots.{spotStart, spotOf, kthSector}
+use Rattle.files.specs.Asked.{OnSector}
 use Rattle.files.specs.Moves.{bodyPlace}
 use Rattle.files.proofs.SpotLaws.{spot-on, kth-inside}
 use Rattle.requests.specs.declared.locate.Located.{Located}
@@ -24,11 +25,11 @@ use Rattle.requests.specs.declared.show.Part.{Part}
 use Rattle.requests.specs.Answers.{useTests}
 use Rattle.requests.specs.Named.{namedTests}
 use Rattle.requests.specs.Body.{BodySized, bodyTests}
-use Rattle.requests.specs.Locate.{HasSector, sectorOf, locateTests, numberOf, locatedAs, Locates}
+use Rattle.requests.specs.Locate.{HasSector, locateTests, numberOf, locatedAs, Locates, kthOf}
 use Rattle.requests.specs.Show.{showTests, partOf, ShownAt, bytesOf, Shown}
 use Rattle.requests.proofs.RequestLaws.{good-room}
 use Rattle.requests.proofs.NamedLaws.{state-file, usable-active, body-usable}
-use Rattle.requests.proofs.MountLaws.{use-good}
+use Rattle.requests.proofs.JudgedLaws.{use-good}
 
 -- ---- tests between those and 14
 
@@ -119,7 +120,7 @@ module _ (b body : List ℕ) (id k : ℕ) where
         (sector-good b id k ts h, (usable-active 8 b id (body-usable 8 b body id (sector-file b id k ts h) .1) .0, sector-has b id k ts h))
 
     -- its sector lies in the body
-    show-inside : bodyPlace (sectorOf b id k) + 1024 ≤ length body
+    show-inside : bodyPlace (kthOf b id k) + 1024 ≤ length body
     show-inside =
         let g = show-file .0 in
         let s = kth-inside (placesOf b) b (g .layout) (g .lawful) id (show-file .1 .0) k (show-file .1 .1) in
@@ -141,11 +142,11 @@ module _ (b body : List ℕ) (id k : ℕ) where
       }
 
   -- the part lies in the body
-  part-inside : (n : ℕ) (r : Part) → Gate (showTests b body id k) n → r ≡ partOf n (sectorOf b id k) → r .at + r .len ≤ length body
+  part-inside : (n : ℕ) (r : Part) → Gate (showTests b body id k) n → r ≡ partOf n (kthOf b id k) → r .at + r .len ≤ length body
   part-inside zero r h e = rw e (show-inside h)
   part-inside (suc n) r h e = rw e (omega arith)
 
-  part-bytes : (n : ℕ) (r : Part) → r ≡ partOf n (sectorOf b id k) → take (r .len) (drop (r .at) body) ≡ bytesOf n body (sectorOf b id k)
+  part-bytes : (n : ℕ) (r : Part) → r ≡ partOf n (kthOf b id k) → take (r .len) (drop (r .at) body) ≡ bytesOf n body (kthOf b id k)
   part-bytes zero r e = rw e refl
   part-bytes (suc n) r e = rw e refl
 
@@ -161,14 +162,14 @@ module _ (b body : List ℕ) (id k : ℕ) where
 pub located-one : (b : List ℕ) (id k : ℕ) (r s : Located) → Locates b id k r → Locates b id k s → r ≡ s
 located-one b id k r s h l =
     let e = gate-one (locateTests b id k) (numberOf r) (numberOf s) (h .number) (l .number) in
-    h .answer ∙ ap (λ (n : ℕ). locatedAs n (sectorOf b id k)) e ∙ sym (l .answer)
+    h .answer ∙ ap (λ (n : ℕ). locatedAs n (kthOf b id k)) e ∙ sym (l .answer)
 
 pub shown-at-one : (b body : List ℕ) (id k : ℕ) (r s : Part) → ShownAt b body id k r → ShownAt b body id k s → r ≡ s
 shown-at-one b body id k r s h l =
     let e = gate-one (showTests b body id k) (h .number) (l .number) (h .gate) (l .gate) in
-    h .part ∙ ap (λ (n : ℕ). partOf n (sectorOf b id k)) e ∙ sym (l .part)
+    h .part ∙ ap (λ (n : ℕ). partOf n (kthOf b id k)) e ∙ sym (l .part)
 
 pub shown-one : (b body : List ℕ) (id k : ℕ) (x y : List ℕ) → Shown b body id k x → Shown b body id k y → x ≡ y
 shown-one b body id k x y h l =
     let e = gate-one (showTests b body id k) (h .number) (l .number) (h .gate) (l .gate) in
-    h .bytes ∙ ap (λ (n : ℕ). bytesOf n body (sectorOf b id k)) e ∙ sym (l .bytes)
+    h .bytes ∙ ap (λ (n : ℕ). bytesOf n body (kthOf b id k)) e ∙ sym (l .bytes)

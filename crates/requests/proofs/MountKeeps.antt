@@ -1,30 +1,27 @@
--- Mount and dismount keep the books good: the rules hold of the books afterwards, at the same places. Assumes nothing.
-use mathlib.Core.Path.{_≡_, refl}
+-- Mount and dismount keep the books good: the rules hold of the books afterwards, at the same places.
+use mathlib.Core.Path.{_≡_}
 use mathlib.Core.Logic.{inl}
 use mathlib.Core.List.{List}
-use Prim.Native.Nat.{ℕ, zero, suc, _≤_}
+use Prim.Native.Nat.{ℕ, _≤_}
 use native.Mathlib.Omega.{arith}
 use lib.ListN.{length}
 use Rattle.field.specs.Kept.{Kept}
 use Rattle.field.proofs.Frames.{kept-wider}
 use Rattle.field.proofs.NumberLaws.{u16-kept, u32-kept, kept-putU16, u16-put-same}
 use Rattle.tables.specs.declared.places.Places.{Places}
-use Rattle.tables.specs.Sector1.{flagOf}
+use Rattle.tables.specs.Sector1.{flagOf, putFlag}
 use Rattle.tables.specs.Views.{viewOf}
 use Rattle.tables.specs.Books.{Good}
 use Rattle.tables.proofs.SameLaws.{same-R9}
 use Rattle.tables.proofs.FrameLaws.{sector1-same, sector1-good}
-use Rattle.requests.specs.Answers.{after}
-use Rattle.requests.specs.Mount.{putFlag, Mounted, Dismounted}
-use Rattle.requests.proofs.RequestLaws.{good-room}
+use Rattle.requests.specs.Mount.{Mounted, Dismounted}
+use Rattle.requests.proofs.RequestLaws.{good-room, done-keeps}
 
 -- only the flag's two bytes change
 pub kept-flag : (b : List ℕ) (f : ℕ) → Kept b (putFlag b f) 1054 2
-unfolding putFlag
 kept-flag b f = kept-putU16 b 1054 f
 
 pub flag-put : (b : List ℕ) (f : ℕ) → 2048 ≤ length b → flagOf (putFlag b f) ≡ f
-unfolding putFlag
 flag-put b f room = u16-put-same b 1054 f (omega arith)
 
 pub flag-keeps : (b : List ℕ) (p : Places) (f : ℕ) → f ≤ 1 → Good b p → Good (putFlag b f) p
@@ -41,11 +38,6 @@ flag-keeps b p f few g =
     (u16-kept 1042 k (inl (omega arith)))
     (omega (arith, flag-put b f (good-room b p g)))
     (g .lawful .r9)) g
-
--- a request keeps the books good if it does where it is done, for a refusal leaves them as they were
-pub done-keeps : (r : ℕ) (new old b' : List ℕ) (p : Places) → b' ≡ after r new old → (r ≡ 0 → Good new p) → Good old p → Good b' p
-done-keeps zero new old b' p e h g = rw e (h refl)
-done-keeps (suc k) new old b' p e h g = rw e g
 
 pub mounted-keeps : (b : List ℕ) (r : ℕ) (b' : List ℕ) (p : Places) → Mounted b r b' → Good b p → Good b' p
 mounted-keeps b r b' p h g = done-keeps r (putFlag b 1) b b' p (h .books) (λ e. flag-keeps b p 1 (omega arith) g) g

@@ -1,23 +1,29 @@
--- Requests that name a file, and those that take the body: each way out of numbers 15, 8, 9 and 10, and what no number says. Assumes nothing.
+-- Requests that name a file, and those that take the body: each way out of numbers 15, 8, 9 and 10, and what no number says.
 use mathlib.Core.Path.{_≡_, sym, ap, _∙_}
 use mathlib.Core.Logic.{_≢_}
+use mathlib.Core.Bool.{Bool, not, true, false}
 use mathlib.Core.List.{List, [], _∷_}
 use Prim.Native.Nat.{ℕ, _-_, _*_, _/_, _%_, _≤_, _<_}
 use native.Mathlib.Omega.{arith}
+use borrow.Author.Tests.{not-true, not-false}
+use lib.Dec.{eqb}
 use lib.ListN.{length}
+use Rattle.field.specs.Says.{Says}
+use Rattle.field.proofs.Tests.{passed, refused, says-eq}
 use Rattle.tables.specs.declared.entry.Entry.{Entry}
 use Rattle.tables.specs.declared.places.Places.{Places}
-use Rattle.tables.specs.Entries.{entryOf}
-use Rattle.tables.specs.Indexes.{tableAt, attributeOf}
-use Rattle.tables.specs.Places.{placesOf, Layout}
+use Rattle.tables.specs.Entries.{entryOf, isParent, isVariable}
+use Rattle.tables.specs.Indexes.{tableAt, wordOf, attributeOf, deletedBit}
+use Rattle.tables.specs.Places.{placesOf}
 use Rattle.tables.specs.Gates.{asks, Gate}
 use Rattle.tables.specs.Books.{Good}
-use Rattle.tables.specs.Rules.R9.{deletedBit}
 use Rattle.tables.specs.Views.{viewOf, Parent}
-use Rattle.tables.proofs.GateLaws.{gate-fails, gate-passes, gate-end, gate-stop, gate-skip, gate-head, gate-front}
-use Rattle.requests.specs.Named.{fileBytes, stateTests, namedTests, usableTests}
+use Rattle.tables.proofs.GateLaws.{gate-fails, gate-passes, gate-end, gate-stop, gate-skip, gate-head, gate-front, gate-swap}
+use Rattle.requests.specs.Answers.{useTests, argumentTests}
+use Rattle.requests.specs.Named.{fileBytes, stateTests, namedTests, Unprotected, askedTests, usableTests, VariableSize}
 use Rattle.requests.specs.Body.{BodySized, bodyTests}
-use Rattle.requests.proofs.EntryLaws.{parentOne, entry-attribute, entry-parent, parent-entry}
+use Rattle.requests.proofs.ArgumentLaws.{says-this, this-says}
+use Rattle.tables.proofs.KindLaws.{parent-word, not-parent, variable-bit, not-variable, entry-attribute}
 
 -- ---- 8 and 9
 
@@ -41,15 +47,15 @@ module _ (b : List ℕ) (p : Places) (id : ℕ) (g : Good b p) where
     unfolding stateTests
     state-high h = gate-fails 8 _ _ (omega arith) (λ f. omega (arith, f .high, ap (λ (q : Places). q .indexes) (g .places)))
 
-    module _ (e : Entry) (is : e ≡ entryOf id (tableAt p b id)) where
-      pub state-other : parentOne (e .kind) ≡ 0 → Gate (stateTests d b id) 8
+    module _ (e : Entry) (q : Bool) (is : e ≡ entryOf id (tableAt p b id)) (ask : q ≡ isParent (e .kind)) where
+      pub state-other : not q ≡ true → Gate (stateTests d b id) 8
       unfolding stateTests
-      state-other none = gate-fails 8 _ _ (omega arith) (λ f. omega (arith, parent-entry id (fileBytes b id) e (entry-read e is) (f .low) (f .word)))
+      state-other n = gate-fails 8 _ _ (omega arith) (λ f. not-parent id (fileBytes b id) e (entry-read e is) (f .low) (sym ask ∙ not-true q n) (f .word))
 
-      pub state-parent : parentOne (e .kind) ≡ 1 → 1 ≤ id → id ≤ p .indexes → (r : ℕ) → Gate (asks 9 (deletedBit (e .attribute) ≡ d) ∷ []) r → Gate (stateTests d b id) r
+      pub state-parent : not q ≡ false → 1 ≤ id → id ≤ p .indexes → (r : ℕ) → Gate (asks 9 (deletedBit (e .attribute) ≡ d) ∷ []) r → Gate (stateTests d b id) r
       unfolding stateTests
-      state-parent one low high r h =
-          let f : Parent (viewOf (placesOf b) b) id = record { low = low; high = rw (g .places) at high; word = entry-parent id (fileBytes b id) e (entry-read e is) one } in
+      state-parent n low high r h =
+          let f : Parent (viewOf (placesOf b) b) id = record { low = low; high = rw (g .places) at high; word = parent-word id (fileBytes b id) e (entry-read e is) (sym ask ∙ not-false q n) } in
           gate-passes 8 _ _ r f (rw (entry-attribute id (fileBytes b id) e (entry-read e is)) at h)
 
     pub state-fine : Parent (viewOf p b) id → deletedBit (attributeOf (tableAt p b id)) ≡ d → Gate (stateTests d b id) 0
@@ -74,9 +80,33 @@ module _ (b : List ℕ) (id : ℕ) where
     pub named-parent : Parent (viewOf p b) id
     named-parent = rw (g .places) (state-file 0 (rw e at h) .0)
 
-    -- what reading its table asks
-    pub named-table : Layout p (length b) × ((1 ≤ id) × (id ≤ p .indexes))
-    named-table = (g .layout, (named-parent .low, named-parent .high))
+-- ---- 1 to 5, 7, 8 and 9
+
+module _ (d : ℕ) (b : List ℕ) (id : ℕ) where
+  module _ (P : Type 0) (n : ℕ) (g : Gate (argumentTests b P) n) where
+    pub asked-stops : n ≢ 0 → Gate (askedTests d b P id) n
+    asked-stops ne = gate-stop (argumentTests b P) _ n g ne
+
+    pub asked-goes : (r : ℕ) → n ≡ 0 → Gate (stateTests d b id) r → Gate (askedTests d b P id) r
+    asked-goes r e h = gate-skip (argumentTests b P) _ n r g e h
+
+  -- the answer of a test of P
+  pub asked-says : (a : Bool) (P : Type 0) (n : ℕ) → Says a P → Gate (askedTests d b (a ≡ true) id) n → Gate (askedTests d b P id) n
+  unfolding argumentTests useTests
+  asked-says a P n s g = gate-swap (useTests b) (stateTests d b id) 7 (a ≡ true) P n (λ e. says-this a P s e) (λ p. this-says a P s p) g
+
+-- ---- a file's weights
+
+pub weight-says : (w : ℕ) (b : List ℕ) (p : Places) (id : ℕ) (t : List ℕ) (a : ℕ) → Good b p → t ≡ tableAt p b id → a ≡ attributeOf t → Says (eqb (a / w % 2) 0) (Unprotected w b id)
+weight-says w b p id t a g is read = let e = ap (λ (x : ℕ). x / w % 2) (attribute-read b p id g t is a read) in says-eq (a / w % 2) 0 (λ z. sym e ∙ z) (λ z. e ∙ z)
+
+module _ (b : List ℕ) (p : Places) (id : ℕ) (g : Good b p) (parent : Parent (viewOf p b) id) (e : Entry) (is : e ≡ entryOf id (tableAt p b id)) where
+  own : wordOf (fileBytes b id) ≡ id
+  own = rw (← g .places) (parent .word)
+
+  pub variable-says : (r : Bool) → r ≡ isVariable (e .kind) → Says r (VariableSize b id)
+  variable-says true is-so = variable-bit id (fileBytes b id) e (entry-read b p id g e is) (parent .low) (sym is-so)
+  variable-says false is-so = not-variable id (fileBytes b id) e (entry-read b p id g e is) (parent .low) (sym is-so) own
 
 -- ---- 8, 9 and 10
 
@@ -86,17 +116,22 @@ module _ (w : ℕ) (b : List ℕ) (id : ℕ) where
     unfolding usableTests
     usable-unnamed ne = gate-stop (namedTests b id) _ n h ne
 
-    module _ (e : n ≡ 0) (p : Places) (g : Good b p) (t : List ℕ) (is : t ≡ tableAt p b id) (a : ℕ) (read : a ≡ attributeOf t) where
-      weight : a / w % 2 ≡ attributeOf (fileBytes b id) / w % 2
-      weight = ap (λ (x : ℕ). x / w % 2) (attribute-read b p id g t is a read)
+    module _ (e : n ≡ 0) where
+      -- what testing its weight asks
+      pub usable-file : (p : Places) → Good b p → Parent (viewOf p b) id
+      usable-file p g = named-parent b id p n g h e
 
-      pub usable-protected : a / w % 2 ≢ 0 → Gate (usableTests w b id) 10
+      pub usable-fine : Unprotected w b id → Gate (usableTests w b id) 0
       unfolding usableTests
-      usable-protected ne = gate-skip (namedTests b id) _ n 10 h e (gate-fails 10 _ [] (omega arith) (λ z. ne (weight ∙ z)))
+      usable-fine z = gate-skip (namedTests b id) _ n 0 h e (gate-passes 10 _ [] 0 z gate-end)
 
-      pub usable-fine : a / w % 2 ≡ 0 → Gate (usableTests w b id) 0
-      unfolding usableTests
-      usable-fine z = gate-skip (namedTests b id) _ n 0 h e (gate-passes 10 _ [] 0 (sym weight ∙ z) gate-end)
+      module _ (r : Bool) (s : Says r (Unprotected w b id)) where
+        pub usable-protected : not r ≡ true → Gate (usableTests w b id) 10
+        unfolding usableTests
+        usable-protected no' = gate-skip (namedTests b id) _ n 10 h e (gate-fails 10 _ [] (omega arith) (refused r s no'))
+
+        pub usable-free : not r ≡ false → Gate (usableTests w b id) 0
+        usable-free yes' = usable-fine (passed r s yes')
 
   module _ (h : Gate (usableTests w b id) 0) where
     pub usable-active : Parent (viewOf (placesOf b) b) id × (deletedBit (attributeOf (fileBytes b id)) ≡ 0)
@@ -122,3 +157,7 @@ module _ (w : ℕ) (b body : List ℕ) (id : ℕ) where
   pub body-usable : Gate (bodyTests w b body id) 0 → BodySized b body × Gate (usableTests w b id) 0
   unfolding bodyTests
   body-usable h = gate-head 15 (BodySized b body) _ h
+
+-- where none of 15, 8, 9 and 10 applies, there is one
+pub body-parent : (w : ℕ) (b body : List ℕ) (id : ℕ) (p : Places) (m : ℕ) → Good b p → Gate (bodyTests w b body id) m → m ≡ 0 → Parent (viewOf p b) id
+body-parent w b body id p m g h e = rw (g .places) (usable-active w b id (body-usable w b body id (rw e at h) .1) .0)

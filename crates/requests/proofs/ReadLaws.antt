@@ -1,9 +1,9 @@
--- Read: each way out, what its parts ask, and that its promise allows one result. Assumes nothing.
+-- Read: each way out, what its parts ask, and that its promise allows one result.
 use mathlib.Core.Path.{_≡_, refl, sym, ap, _∙_}
 use mathlib.Core.Logic.{_≢_}
 use mathlib.Core.Bool.{Bool, true, false, cond}
 use mathlib.Core.List.{List, [], _∷_}
-use Prim.Native.Nat.{ℕ, zero, suc, _+_, _-_, _*_, _/_, _%_, _≤_, _<_}
+use Prim.Native.Nat.{ℕ, zero, suc, _-_, _*_, _/_, _≤_, _<_}
 use native.Mathlib.Omega.{arith}
 use lib.Dec.{leb}
 use lib.ListN.{length}
@@ -12,68 +12,23 @@ use Rattle.field.specs.Says.{Says}
 use Rattle.tables.specs.declared.places.Places.{Places}
 use Rattle.tables.specs.Books.{Good}
 use Rattle.tables.specs.Gates.{asks, Gate}
-use Rattle.tables.specs.Indexes.{tableAt, lengthOf}
 use Rattle.tables.specs.Places.{placesOf, Layout}
 use Rattle.tables.specs.Lawful.{Lawful}
-use Rattle.tables.specs.Rules.R8.{fileSectors, File}
 use Rattle.tables.specs.Views.{viewOf, Parent}
 use Rattle.tables.proofs.GateLaws.{gate-one, gate-fails, gate-passes, gate-end, gate-stop, gate-skip, gate-rest, gate-head, gate-front}
 use Rattle.files.specs.Moves.{fetched, Movable}
 use Rattle.requests.specs.declared.amount.Amount.{Amount}
-use Rattle.requests.specs.declared.amount.Amount.the-variants.{Below, Is}
 use Rattle.requests.specs.declared.answer.Answer.{Answer}
 use Rattle.requests.specs.declared.answer.Answer.the-variants.{Done, Refused}
-use Rattle.requests.specs.Answers.{numberOf}
+use Rattle.requests.specs.Answers.{numberOf, argumentTests}
 use Rattle.requests.specs.Body.{bodyTests}
-use Rattle.requests.specs.Create.{argumentTests}
-use Rattle.requests.specs.Format.{sizeOf}
-use Rattle.requests.specs.Read.{wholeSectors, endOf, MoveAllowed, readTests, readAmount, ReadOut}
+use Rattle.requests.specs.Amounts.{amountValue}
+use Rattle.requests.specs.Read.{readTests, readAmount, ReadOut}
+use Rattle.requests.specs.Moving.{wholeSectors, endOf, MoveAllowed}
 use Rattle.requests.proofs.RequestLaws.{after-one, answers-one}
-use Rattle.requests.proofs.CreateLaws.{argument-says, argument-allowed, argument-good, argument-room}
-use Rattle.requests.proofs.FixedLaws.{le-says}
-use Rattle.requests.proofs.NamedLaws.{usable-active, body-usable}
-
--- ---- arguments
-
-pub sizes-say : (at long room w : ℕ) → at ≤ 2147483647 → at % 1024 ≡ 0 → long ≤ 2147483647 → w ≡ wholeSectors long → Says (leb w room) (MoveAllowed (Is at) (Is long) room)
-sizes-say at long room w low whole small is =
-    le-says (MoveAllowed (Is at) (Is long) room) w room (λ l. record { position' = low; sector = whole; long' = small; buffer = rw (← is) l }) (λ a. rw is (a .buffer))
-
-module _ (position long : Amount) (room : ℕ) where
-  pub move-early : position ≡ Below → MoveAllowed position long room → ⊥
-  move-early e a = rw e at (a .position')
-
-  pub move-short : long ≡ Below → MoveAllowed position long room → ⊥
-  move-short e a = rw e at (a .long')
-
-  pub move-says : (at n : ℕ) (r : Bool) → position ≡ Is at → long ≡ Is n → Says r (MoveAllowed (Is at) (Is n) room) → Says r (MoveAllowed position long room)
-  move-says at n r e f s = rw (e, f) s
-
--- ---- the end
-
--- the file as the rules have it
-pub file-here : (b : List ℕ) (p : Places) (id : ℕ) → Good b p → Parent (viewOf p b) id → File (viewOf p b) id (tableAt p b id)
-file-here b p id g parent = g .lawful .r8 id (omega (arith, parent .high)) (parent .low) (parent .word)
-
--- the end is within the file's sectors
-end-within : (b : List ℕ) (p : Places) (id : ℕ) → Good b p → Parent (viewOf p b) id → endOf b id ≤ 1024 * fileSectors (viewOf p b) id
-end-within b p id g parent = let most = file-here b p id g parent .most in omega (arith, ap (λ (q : Places). lengthOf (tableAt q b id)) (g .places))
-
-module _ (b : List ℕ) (p : Places) (id : ℕ) (g : Good b p) (parent : Parent (viewOf p b) id) (t : List ℕ) (bytes : t ≡ tableAt p b id) (n : ℕ) (is : n ≡ lengthOf t) where
-  end-small : n < 2147483648
-  end-small = rw (is, bytes) (file-here b p id g parent .least)
-
-  pub end-adds : n + 1023 < 4294967296
-  end-adds = omega (arith, end-small)
-
-  pub end-most : 1024 * ((n + 1023) / 1024) ≤ 2147483648
-  end-most = omega (arith, end-small)
-
-  pub end-fits : 1024 * ((n + 1023) / 1024) < 4294967296
-  end-fits = omega (arith, end-most)
-
-  pub end-is : 1024 * ((n + 1023) / 1024) ≡ endOf b id
-  end-is = ap (λ (x : ℕ). 1024 * ((x + 1023) / 1024)) (is ∙ ap lengthOf bytes ∙ ap (λ (q : Places). lengthOf (tableAt q b id)) (g .places))
+use Rattle.requests.proofs.ArgumentLaws.{argument-says, argument-allowed, argument-good, argument-room}
+use Rattle.requests.proofs.NamedLaws.{body-usable, body-parent}
+use Rattle.requests.proofs.MovingLaws.{end-within}
 
 -- ---- the amount
 
@@ -96,12 +51,6 @@ amount-most b id at long = go (leb (wholeSectors long) (endOf b id - at)) refl
     go true e = (omega arith, leb-true (wholeSectors long) (endOf b id - at) e)
     go false e = (omega (arith, leb-false (wholeSectors long) (endOf b id - at) e), omega arith)
 
--- ---- the file
-
--- where none of 15, 8, 9 and 10 applies, there is one
-pub body-parent : (w : ℕ) (b body : List ℕ) (id : ℕ) (p : Places) (m : ℕ) → Good b p → Gate (bodyTests w b body id) m → m ≡ 0 → Parent (viewOf p b) id
-body-parent w b body id p m g h e = rw (g .places) (usable-active w b id (body-usable w b body id (rw e at h) .1) .0)
-
 -- ---- the request
 
 module _ (b body : List ℕ) (id : ℕ) (position long : Amount) (room : ℕ) where
@@ -115,8 +64,8 @@ module _ (b body : List ℕ) (id : ℕ) (position long : Amount) (room : ℕ) wh
       unfolding readTests
       read-unusable ne = gate-skip (argumentTests b (MoveAllowed position long room)) _ n m (argument-says b a _ n s g) e (gate-stop (bodyTests 8 b body id) _ m h ne)
 
-      module _ (z : m ≡ 0) (x end : ℕ) (is : x ≡ sizeOf position) (ends : end ≡ endOf b id) where
-        usable : (r : ℕ) → Gate (asks 14 (sizeOf position < endOf b id) ∷ []) r → Gate (readTests b body id position long room) r
+      module _ (z : m ≡ 0) (x end : ℕ) (is : x ≡ amountValue position) (ends : end ≡ endOf b id) where
+        usable : (r : ℕ) → Gate (asks 14 (amountValue position < endOf b id) ∷ []) r → Gate (readTests b body id position long room) r
         unfolding readTests
         usable r q = gate-skip (argumentTests b (MoveAllowed position long room)) _ n r (argument-says b a _ n s g) e (gate-skip (bodyTests 8 b body id) _ m r h z q)
 
@@ -132,7 +81,7 @@ module _ (b body : List ℕ) (id : ℕ) (position long : Amount) (room : ℕ) wh
     unfolding readTests
     front = gate-front (argumentTests b (MoveAllowed position long room)) _ (rw e at h)
 
-    rest : Gate (bodyTests 8 b body id) 0 × (sizeOf position < endOf b id)
+    rest : Gate (bodyTests 8 b body id) 0 × (amountValue position < endOf b id)
     unfolding readTests
     rest =
         let q = gate-rest (argumentTests b (MoveAllowed position long room)) _ (rw e at h) in
@@ -154,11 +103,11 @@ module _ (b body : List ℕ) (id : ℕ) (position long : Amount) (room : ℕ) wh
       pub read-lawful : Lawful p b
       read-lawful = read-good .lawful
 
-      module _ (at : ℕ) (place : at ≡ sizeOf position) where
+      module _ (at : ℕ) (place : at ≡ amountValue position) where
         pub read-before : at < endOf b id
         read-before = rw place (rest .1)
 
-        pub read-moves : (x n : ℕ) → x ≡ sizeOf long → n ≡ readAmount b id at x → Movable (viewOf p b) id (at / 1024) (n / 1024) room (length body)
+        pub read-moves : (x n : ℕ) → x ≡ amountValue long → n ≡ readAmount b id at x → Movable (viewOf p b) id (at / 1024) (n / 1024) room (length body)
         read-moves x n long' amount =
             let few = amount-most b id at x in
             let end = end-within b p id read-good read-parent in
@@ -177,10 +126,10 @@ module _ (b body : List ℕ) (id : ℕ) (position long : Amount) (x : Bool) (out
   read-refused zero g h = absurd (h refl)
   read-refused (suc k) g h = record { number = g; answer = refl; output = refl }
 
-  pub read-done : (n at y amount : ℕ) (p : Places) (out' : List ℕ) → Gate (readTests b body id position long (length out)) n → n ≡ 0 → p ≡ placesOf b → at ≡ sizeOf position → y ≡ sizeOf long
+  pub read-done : (n at y amount : ℕ) (p : Places) (out' : List ℕ) → Gate (readTests b body id position long (length out)) n → n ≡ 0 → p ≡ placesOf b → at ≡ amountValue position → y ≡ amountValue long
       → amount ≡ readAmount b id at y → out' ≡ fetched (viewOf p b) id (at / 1024) x body out (amount / 1024) → ReadOut b body id position long x out (Done amount) out'
   read-done n at y amount p out' g e is place long' am o =
-      let am' : amount ≡ readAmount b id (sizeOf position) (sizeOf long) = rw (← place, ← long') am in
+      let am' : amount ≡ readAmount b id (amountValue position) (amountValue long) = rw (← place, ← long') am in
       record {
         number = rw e at g;
         answer = ap Done am';

@@ -1,4 +1,4 @@
--- The report: how long its lines are, and its text by value. Assumes nothing.
+-- The report: how long its lines are, and its text by value.
 use mathlib.Core.Path.{_≡_, refl, sym, ap, ap₂, _∙_}
 use mathlib.Core.Logic.{inl, inr, _≢_}
 use mathlib.Core.List.{List, [], _∷_, _++_}
@@ -16,12 +16,13 @@ use Rattle.tables.specs.Views.{View, viewOf}
 use Rattle.tables.specs.Open.{isOpen, openZones}
 use Rattle.tables.specs.Gates.{Gate}
 use Rattle.tables.specs.Books.{Good, bookTests}
-use Rattle.tables.proofs.CountLaws.{only-le}
+use Rattle.tables.proofs.Sector1CountLaws.{only-le}
 use Rattle.tables.proofs.GateLaws.{gate-one, good-zero}
 use Rattle.requests.specs.declared.report.Figures.{Figures}
 use Rattle.requests.specs.declared.report.Text.{Text}
+use Rattle.requests.specs.Space.{usedSectors}
 use Rattle.requests.specs.Text.{lineOf, Put}
-use Rattle.requests.specs.Report.{zonesLine, sectorsLine, usedLine, indexesLine, freeLine, activeLine, deletedLine, systemLine, directoryLine, openLine, mountedLine, sizeLines, fileLines, stateLines, linesOf, refusedLine, Small, textOf, figuresOf, reportOf, Reported}
+use Rattle.requests.specs.Report.{zonesLine, sectorsLine, usedLine, indexesLine, freeLine, activeLine, deletedLine, systemLine, directoryLine, openLine, mountedLine, sizeLines, fileLines, stateLines, linesOf, refusedLine, Small, figuresOf, reportOf, Reported, asText}
 use Rattle.requests.proofs.TextLaws.{line-length, decimal-few}
 use Rattle.requests.proofs.RequestLaws.{good-few}
 
@@ -65,8 +66,8 @@ drop-nulls k n h =
     let e : k + (n - k) ≡ n = omega arith in
     ap (λ (m : ℕ). drop {A = ℕ} k (replicate m 0)) (sym e) ∙ ap (drop {A = ℕ} k) (sym (replicate-append-replicate k (n - k) 0)) ∙ drop-at (replicate k 0) (replicate (n - k) 0) k (length-replicate {A = ℕ} k 0)
 
-pub text-made : (xs bytes : List ℕ) (len : ℕ) → length xs ≤ 192 → Put (replicate 192 0) 0 xs bytes len → _≡_ {A = Text} (record { bytes = bytes; length = len }) (textOf xs)
-unfolding textOf over
+pub text-made : (xs bytes : List ℕ) (len : ℕ) → length xs ≤ 192 → Put (replicate 192 0) 0 xs bytes len → _≡_ {A = Text} (record { bytes = bytes; length = len }) (asText xs)
+unfolding asText over
 text-made xs bytes len h p =
     let b : bytes ≡ xs ++ replicate (192 - length xs) 0 = p .bytes ∙ ap (λ (x : List ℕ). xs ++ x) (ap (λ (k : ℕ). drop {A = ℕ} k (replicate 192 0)) (zero-add (length xs)) ∙ drop-nulls (length xs) 192 h) in
     let l : len ≡ length xs = p .end ∙ zero-add (length xs) in
@@ -79,6 +80,7 @@ unfolding openZones
 open-few v = sum-le (v .zones - 2) _ (λ k l. only-le (isOpen (v .zone (k + 2))) 1)
 
 pub good-small : (b : List ℕ) (p : Places) (f : Figures) → Good b p → f ≡ figuresOf p b → Small f
+unfolding usedSectors
 good-small b p f g e =
     let v : View = viewOf p b in
     let few = good-few b p g in
@@ -108,34 +110,34 @@ books-few b n (inl (_, inl (_, inr h))) = omega (arith, h .1)
 books-few b n (inl (_, inl (_, inl (_, inr h)))) = omega (arith, h .1)
 books-few b n (inl (_, inl (_, inl (_, inl (_, h))))) = omega arith
 
-pub report-refused : (b : List ℕ) (n : ℕ) (t : Text) → Gate (bookTests b) n × (n ≢ 0) → t ≡ textOf (refusedLine n) → Reported b t
+pub report-refused : (b : List ℕ) (n : ℕ) (t : Text) → Gate (bookTests b) n × (n ≢ 0) → t ≡ asText (refusedLine n) → Reported b t
 report-refused b zero t h e = absurd (h .1 refl)
 report-refused b (suc k) t h e = record { number = suc k; gate = h .0; text = e; short = omega (arith, refused-short (suc k) (omega (arith, books-few b (suc k) (h .0)))) }
 
-pub report-fine : (b : List ℕ) (p : Places) (f : Figures) (t : Text) → Good b p → f ≡ figuresOf p b → t ≡ textOf (linesOf f) → Reported b t
+pub report-fine : (b : List ℕ) (p : Places) (f : Figures) (t : Text) → Good b p → f ≡ figuresOf p b → t ≡ asText (linesOf f) → Reported b t
 report-fine b p f t g q e =
     let same : linesOf f ≡ linesOf (figuresOf (placesOf b) b) = ap linesOf (q ∙ ap (λ (x : Places). figuresOf x b) (g .places)) in
-    record { number = 0; gate = good-zero b p g; text = e ∙ ap textOf same; short = omega (arith, ap length same, lines-short f (good-small b p f g q)) }
+    record { number = 0; gate = good-zero b p g; text = e ∙ ap asText same; short = omega (arith, ap length same, lines-short f (good-small b p f g q)) }
 
 pub reported-one : (b : List ℕ) (t u : Text) → Reported b t → Reported b u → t ≡ u
-reported-one b t u h k = h .text ∙ ap (λ (n : ℕ). textOf (reportOf n b)) (gate-one (bookTests b) (h .number) (k .number) (h .gate) (k .gate)) ∙ sym (k .text)
+reported-one b t u h k = h .text ∙ ap (λ (n : ℕ). asText (reportOf n b)) (gate-one (bookTests b) (h .number) (k .number) (h .gate) (k .gate)) ∙ sym (k .text)
 
 -- ---- what a caller does with the text
 
 -- the text by value holds the lines at its start
-pub text-length : (xs : List ℕ) (t : Text) → t ≡ textOf xs → t .length ≡ length xs
-unfolding textOf
+pub text-length : (xs : List ℕ) (t : Text) → t ≡ asText xs → t .length ≡ length xs
+unfolding asText
 text-length xs t e = ap (λ (x : Text). x .length) e
 
-pub text-part : (xs : List ℕ) (t : Text) → t ≡ textOf xs → take (t .length) (t .bytes) ≡ xs
-unfolding textOf
+pub text-part : (xs : List ℕ) (t : Text) → t ≡ asText xs → take (t .length) (t .bytes) ≡ xs
+unfolding asText
 text-part xs t e = ap (λ (x : Text). take (x .length) (x .bytes)) e ∙ take-at xs (replicate (192 - length xs) 0) (length xs) refl
 
 pub report-room : (b : List ℕ) (t : Text) → Reported b t → t .length ≤ 192
 report-room b t h = omega (arith, text-length (reportOf (h .number) b) t (h .text), h .short)
 
 pub report-fits : (b : List ℕ) (t : Text) → Reported b t → t .length ≤ length (t .bytes)
-unfolding textOf
+unfolding asText
 report-fits b t h =
     let xs : List ℕ = reportOf (h .number) b in
     omega (arith, text-length xs t (h .text), ap (λ (x : Text). length (x .bytes)) (h .text), length-append xs (replicate (192 - length xs) 0))

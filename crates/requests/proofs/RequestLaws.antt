@@ -1,23 +1,20 @@
--- What every request uses: the books' own numbers, a refusal that alters nothing, and small counts. Assumes nothing.
+-- What every request uses: the books' own numbers, a refusal that alters nothing, and small counts.
 use mathlib.Core.Path.{_≡_, refl, sym, ap, ap₂, _∙_}
 use mathlib.Core.Logic.{_≢_}
 use mathlib.Core.List.{List}
-use Prim.Native.Nat.{ℕ, zero, suc, _+_, _-_, _≤_}
+use Prim.Native.Nat.{ℕ, zero, suc, _≤_}
 use native.Mathlib.Omega.{arith}
-use lib.Dec.{eqb}
 use lib.ListN.{length}
-use Rattle.field.proofs.Sums.{sum-le}
 use Rattle.tables.specs.declared.places.Places.{Places}
 use Rattle.tables.specs.Gates.{Gate}
-use Rattle.tables.specs.declared.check.Checked.{Checked}
-use Rattle.tables.specs.declared.check.Checked.the-variants.{Fine, Refused}
-use Rattle.tables.specs.Books.{Good, bookTests, Examined}
-use Rattle.tables.specs.Indexes.{wordOf, attributeOf}
-use Rattle.tables.specs.Rules.R8.{directoryBit, systemBit}
-use Rattle.tables.specs.Rules.R9.{deletedBit, freeOne, activeOne, deletedOne, systemOne, directoryOne}
+use Rattle.examination.specs.declared.check.Checked.{Checked}
+use Rattle.examination.specs.declared.check.Checked.the-variants.{Fine, Refused}
+use Rattle.tables.specs.Books.{Good, bookTests}
+use Rattle.examination.specs.Examined.{Examined}
+use Rattle.tables.specs.Rules.R9.{freeOne, activeOne, deletedOne, systemOne, directoryOne}
 use Rattle.tables.specs.Sector1.{activeOf, deletedOf, freeOf, systemOf, directoryOf}
-use Rattle.tables.specs.Views.{View, viewOf, tally}
-use Rattle.tables.proofs.CountLaws.{only-le}
+use Rattle.tables.specs.Views.{View, viewOf}
+use Rattle.tables.proofs.Sector1CountLaws.{tally-few, free-le, active-le, deleted-le, system-le, directory-le}
 use Rattle.requests.specs.declared.answer.Answer.{Answer}
 use Rattle.requests.specs.Answers.{after, numberOf, answerOf}
 
@@ -29,6 +26,11 @@ good-room b p g = omega (arith, g .sized .least)
 pub after-refused : (r : ℕ) (new old : List ℕ) → r ≢ 0 → old ≡ after r new old
 after-refused zero new old h = absurd (h refl)
 after-refused (suc k) new old h = refl
+
+-- a request keeps the books good if it does where it is done, for a refusal leaves them as they were
+pub done-keeps : (r : ℕ) (new old b' : List ℕ) (p : Places) → b' ≡ after r new old → (r ≡ 0 → Good new p) → Good old p → Good b' p
+done-keeps zero new old b' p e h g = rw e (h refl)
+done-keeps (suc k) new old b' p e h g = rw e g
 
 -- one number, one content
 pub after-one : (r s : ℕ) (x y new old : List ℕ) → r ≡ s → x ≡ after r new old → y ≡ after s new old → x ≡ y
@@ -46,30 +48,6 @@ pub found-bad : (b : List ℕ) (found : Checked) (n : ℕ) → Examined b found 
 found-bad b found n h e = rw e at h
 
 -- ---- R9's counts are no more than the tables
-
-tally-few : (v : View) (one : ℕ → List ℕ → ℕ) → ((i : ℕ) (t : List ℕ) → one i t ≤ 1) → tally v one ≤ v .indexes
-unfolding tally
-tally-few v one h = sum-le (v .indexes) (λ k. one (k + 1) (v .table (k + 1))) (λ k l. h (k + 1) (v .table (k + 1)))
-
-free-le : (i : ℕ) (t : List ℕ) → freeOne i t ≤ 1
-unfolding freeOne
-free-le i t = only-le _ 1
-
-active-le : (i : ℕ) (t : List ℕ) → activeOne i t ≤ 1
-unfolding activeOne
-active-le i t = omega (arith, only-le (eqb (wordOf t) i) (1 - deletedBit (attributeOf t)))
-
-deleted-le : (i : ℕ) (t : List ℕ) → deletedOne i t ≤ 1
-unfolding deletedOne
-deleted-le i t = omega (arith, only-le (eqb (wordOf t) i) (deletedBit (attributeOf t)))
-
-system-le : (i : ℕ) (t : List ℕ) → systemOne i t ≤ 1
-unfolding systemOne
-system-le i t = omega (arith, only-le (eqb (activeOne i t) 1) (systemBit (attributeOf t)))
-
-directory-le : (i : ℕ) (t : List ℕ) → directoryOne i t ≤ 1
-unfolding directoryOne
-directory-le i t = omega (arith, only-le (eqb (activeOne i t) 1) (directoryBit (attributeOf t)))
 
 pub record Few (b : List ℕ) : Type 0 where
   pub free : freeOf b ≤ 4096

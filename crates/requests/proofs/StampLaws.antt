@@ -1,7 +1,7 @@
 -- A date and a number written in a file's parent, and sector 1's counts of files: what stays of the books, and what is read; so of temporary
--- delete, recover and set protection. Assumes nothing.
+-- delete, recover and set protection.
 use mathlib.Core.Path.{_≡_, refl, ap, _∙_}
-use mathlib.Core.Logic.{_≢_, inl, inr}
+use mathlib.Core.Logic.{inl, inr}
 use mathlib.Core.List.{List}
 use Prim.Native.Nat.{ℕ, _+_, _≤_}
 use native.Mathlib.Omega.{arith}
@@ -11,95 +11,26 @@ use Rattle.field.specs.Kept.{Kept}
 use Rattle.field.specs.Parts.{over}
 use Rattle.field.proofs.Frames.{kept-refl, kept-trans, kept-wider}
 use Rattle.field.proofs.NumberLaws.{u16-kept, u32-kept, kept-putU16, kept-putU32, u16-put-same, u32-put-same}
-use Rattle.field.proofs.PartLaws.{kept-over, over-part, same-at}
+use Rattle.field.proofs.PartLaws.{over-part, same-at}
 use Rattle.tables.specs.declared.places.Places.{Places}
 use Rattle.tables.specs.Books.{Good}
 use Rattle.tables.specs.Gates.{Gate}
-use Rattle.tables.specs.Indexes.{tableAt, nameOf, createdOf, lengthOf}
+use Rattle.tables.specs.Indexes.{tablePlace, tableAt, nameOf, createdOf, lengthOf}
 use Rattle.tables.specs.Places.{placesOf, Layout}
-use Rattle.tables.specs.Same.{Ground}
 use Rattle.tables.specs.Sector1.{activeOf, deletedOf, freeOf, systemOf, directoryOf}
 use Rattle.tables.specs.Views.{viewOf, Parent}
-use Rattle.tables.proofs.FrameLaws.{table-kept, sector1-same, sector1-tails}
+use Rattle.tables.proofs.FrameLaws.{table-kept}
 use Rattle.tables.proofs.IndexLaws.{length-table}
-use Rattle.tables.proofs.SameLaws.{same-ground}
 use Rattle.allocation.specs.Lengthened.{Quiet}
-use Rattle.allocation.specs.NewTables.{tablePlace}
-use Rattle.allocation.specs.Steps.{SameCounts}
-use Rattle.allocation.proofs.HeldLawful.{calm-quiet, quiet-trans, Fields, table-fields}
+use Rattle.allocation.proofs.HeldLawful.{quiet-trans, Fields, table-fields}
 use Rattle.allocation.proofs.NextGround.{ground-trans}
 use Rattle.allocation.proofs.RestatedLaws.{Restated}
-use Rattle.allocation.proofs.StepLaws.{Still, still-table}
-use Rattle.allocation.proofs.TableLaws.{table-put16, table-over, table-other}
-use Rattle.requests.specs.State.{putAttribute, putCounts, removed, recovered, protected, removeTests, recoverTests, protectTests}
+use Rattle.allocation.proofs.StampedLaws.{Stamped, status-quiet, status-ground, table-dated, stamped-own, stamped}
+use Rattle.allocation.proofs.TableLaws.{table-put16, table-over}
+use Rattle.requests.specs.State.{putState, putCounts, removed, recovered, protected, removeTests, recoverTests, protectTests}
 use Rattle.requests.proofs.StateLaws.{remove-asks, recover-asks, protect-asks}
 
--- ---- a date and a number in file f's parent, and the date as latest update
-
--- books z are b but for that
-pub record Stamped (p : Places) (b z : List ℕ) (f : ℕ) : Type 0 where
-  pub other : (j : ℕ) → 1 ≤ j → j ≢ f → tableAt p z j ≡ tableAt p b j
-  pub quiet : Quiet p b z
-  pub ground : Ground (viewOf p b) (viewOf p z)
-  pub head : viewOf p z .head ≡ viewOf p b .head
-  pub free : freeOf z ≡ freeOf b
-  pub counts : SameCounts (viewOf p b) (viewOf p z)
-
--- sector 1's bytes tell neither zones nor sectors, and no tail
-status-quiet : (p : Places) (b b' : List ℕ) → Layout p (length b) → Kept b b' 1028 22 → Quiet p b b'
-status-quiet p b b' lay k = record {
-  len = k .len;
-  low = λ j l. k .out j (inl (omega arith));
-  tails = λ s t. sector1-tails b b' (kept-wider k (omega arith) (omega arith)) p lay t;
-}
-
-status-ground : (p : Places) (b b' : List ℕ) → Layout p (length b) → Kept b b' 1028 22 → Ground (viewOf p b) (viewOf p b')
-status-ground p b b' lay k = same-ground (sector1-same b b' (kept-wider k (omega arith) (omega arith)) p lay (u32-kept 1050 k (inr (omega arith))))
-
-module _ (p : Places) (b : List ℕ) (f : ℕ) (date : List ℕ) (lay : Layout p (length b)) (lo : 1 ≤ f) (hi : f ≤ p .indexes) (six : length date ≡ 6) where
-  dated : Kept b (over b (tablePlace p f + 34) date) (tablePlace p f + 34) 6
-  dated = rw six at (kept-over b (tablePlace p f + 34) date (omega (arith, lay .end)))
-
-  -- the table with the date
-  table-dated : Kept (tableAt p b f) (over (tableAt p b f) 34 date) 34 6
-  table-dated = rw six at (kept-over (tableAt p b f) 34 date (omega (arith, length-table p b f lay lo hi)))
-
-  module _ (y : List ℕ) (o n : ℕ) (within : o + n ≤ 128) (k : Kept (over b (tablePlace p f + 34) date) y (tablePlace p f + o) n) where
-    own : Kept b y (tablePlace p f) 128
-    own = kept-trans (kept-wider dated (omega arith) (omega arith)) (kept-wider k (omega arith) (omega arith))
-
-    latest : Kept y (over y 1044 date) 1044 6
-    latest = rw six at (kept-over y 1044 date (omega (arith, own .len, lay .end, lay .index, lay .sector, lay .zone)))
-
-    status : Kept y (over y 1044 date) 1028 22
-    status = kept-wider latest (omega arith) (omega arith)
-
-    still : Still p b y
-    still = still-table lay f lo own
-
-    lay-y : Layout p (length y)
-    lay-y = rw (own .len) lay
-
-    stamped-own : tableAt p (over y 1044 date) f ≡ tableAt p y f
-    stamped-own = table-kept p f latest (inr (omega (arith, lay .index, lay .sector, lay .zone)))
-
-    stamped : Stamped p b (over y 1044 date) f
-    stamped = record {
-      other = λ j low ne. table-kept p j latest (inr (omega (arith, lay .index, lay .sector, lay .zone))) ∙ table-other p f j own lo low ne;
-      quiet = quiet-trans (calm-quiet (still .calm)) (status-quiet p y (over y 1044 date) lay-y status);
-      ground = ground-trans (still .calm .ground) (status-ground p y (over y 1044 date) lay-y status);
-      head = u32-kept 1050 latest (inr (omega arith)) ∙ still .head;
-      free = u32-kept 1036 latest (inl (omega arith)) ∙ still .free;
-      counts = record {
-        active = u32-kept 1028 latest (inl (omega arith)) ∙ still .counts .active;
-        deleted = u32-kept 1032 latest (inl (omega arith)) ∙ still .counts .deleted;
-        system = u16-kept 1040 latest (inl (omega arith)) ∙ still .counts .system;
-        directory = u16-kept 1042 latest (inl (omega arith)) ∙ still .counts .directory;
-        flag = u16-kept 1054 latest (inr (omega arith)) ∙ still .counts .flag;
-      };
-    }
-
--- ---- an attribute written, behind other counts of files
+-- ---- an attribute written, after other counts of files
 
 -- sector 1's counts, but that of free tables, may be others
 pub record Recounted (b c : List ℕ) : Type 0 where
@@ -134,21 +65,21 @@ module _ (p : Places) (b c : List ℕ) (f a : ℕ) (date : List ℕ) (lay : Layo
   new-kept : Kept t (putU16 (over t 34 date) 44 a) 34 12
   new-kept = kept-trans (kept-wider date-kept (omega arith) (omega arith)) (kept-wider put-kept (omega arith) (omega arith))
 
-  put-new : tableAt p (putAttribute p c f a date) f ≡ putU16 (over t 34 date) 44 a
-  unfolding putAttribute
+  put-new : tableAt p (putState p c f a date) f ≡ putU16 (over t 34 date) 44 a
+  unfolding putState
   put-new =
       let x = over c (tablePlace p f + 34) date in
       stamped-own p c f date lay-c lo hi six _ 44 2 (omega arith) (kept-putU16 x (tablePlace p f + 44) a) ∙ table-put16 p x f 44 a (omega arith)
       ∙ ap (λ (u : List ℕ). putU16 u 44 a) (table-over p c f 34 date lay-c lo hi (omega arith) ∙ ap (λ (u : List ℕ). over u 34 date) (c-table f))
 
-  pub put-stamped : Stamped p c (putAttribute p c f a date) f
-  unfolding putAttribute
+  pub put-stamped : Stamped p c (putState p c f a date) f
+  unfolding putState
   put-stamped = stamped p c f date lay-c lo hi six _ 44 2 (omega arith) (kept-putU16 (over c (tablePlace p f + 34) date) (tablePlace p f + 44) a)
 
-  pub put-quiet : Quiet p b (putAttribute p c f a date)
+  pub put-quiet : Quiet p b (putState p c f a date)
   put-quiet = quiet-trans (status-quiet p b c lay wide) (put-stamped .quiet)
 
-  pub put-restated : Restated (viewOf p b) (viewOf p (putAttribute p c f a date)) f
+  pub put-restated : Restated (viewOf p b) (viewOf p (putState p c f a date)) f
   put-restated = record {
     ground = ground-trans (status-ground p b c lay wide) (put-stamped .ground);
     indexes = refl;
@@ -157,7 +88,7 @@ module _ (p : Places) (b c : List ℕ) (f a : ℕ) (date : List ℕ) (lay : Layo
     there = λ j low high ne. put-stamped .other j low ne ∙ c-table j;
   }
 
-  pub put-fields : Fields (tableAt p (putAttribute p c f a date) f) (nameOf t) (createdOf t) date (lengthOf t) a
+  pub put-fields : Fields (tableAt p (putState p c f a date) f) (nameOf t) (createdOf t) date (lengthOf t) a
   put-fields = let h = table-fields t sized in rw put-new (record {
     size = new-kept .len ∙ sized;
     name' = λ k l. new-kept .out (4 + k) (inl (omega arith)) ∙ h .name' k l;
@@ -219,7 +150,7 @@ module _ (b : List ℕ) (g : Good b (placesOf b)) (f : ℕ) (date : List ℕ) (r
   abbrev Restates : List ℕ → Type 0
   Restates d = Parent (viewOf (placesOf b) b) f × Restated (viewOf (placesOf b) b) (viewOf (placesOf b) d) f
 
-  attribute-restates : (c : List ℕ) (a : ℕ) → Recounted b c → Parent (viewOf (placesOf b) b) f → length date ≡ 6 → Restates (putAttribute (placesOf b) c f a date)
+  attribute-restates : (c : List ℕ) (a : ℕ) → Recounted b c → Parent (viewOf (placesOf b) b) f → length date ≡ 6 → Restates (putState (placesOf b) c f a date)
   attribute-restates c a k parent six = (parent, put-restated (placesOf b) b c f a date (g .layout) k (parent .low) (parent .high) six)
 
   pub removed-restates : Gate (removeTests b f date) r → r ≡ 0 → Restates (removed (placesOf b) b f date)

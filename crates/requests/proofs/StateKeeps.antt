@@ -1,5 +1,5 @@
 -- Temporary delete, recover and set protection keep the books good: the rules hold of the books afterwards, at the same places; and all
--- pointers stay. Assumes nothing.
+-- pointers stay.
 use mathlib.Core.Path.{_≡_, refl, sym, ap, ap₂, _∙_}
 use mathlib.Core.Logic.{inr}
 use mathlib.Core.List.{List}
@@ -14,12 +14,12 @@ use Rattle.tables.specs.Books.{Good}
 use Rattle.tables.specs.Dates.{Date}
 use Rattle.tables.specs.Places.{placesOf, Layout}
 use Rattle.tables.specs.Sector1.{activeOf, deletedOf, systemOf, directoryOf}
-use Rattle.tables.specs.Indexes.{tableAt, nameOf, createdOf, lengthOf, attributeOf, baseOf, pointerAt, Used}
+use Rattle.tables.specs.Indexes.{tableAt, nameOf, createdOf, lengthOf, attributeOf, baseOf, pointerAt, Used, variableBit, directoryBit, systemBit, deletedBit}
 use Rattle.tables.specs.Views.{View, viewOf, Parent}
-use Rattle.tables.specs.Rules.R8.{fileType, OneType, variableBit, directoryBit, systemBit, File}
-use Rattle.tables.specs.Rules.R9.{deletedBit, R9}
+use Rattle.tables.specs.Rules.R8.{fileType, OneType, File}
+use Rattle.tables.specs.Rules.R9.{R9}
 use Rattle.tables.specs.Lawful.{Lawful}
-use Rattle.tables.proofs.CountLaws.{Ones, ones-active, ones-deleted}
+use Rattle.tables.proofs.Sector1CountLaws.{Ones, ones-active, ones-deleted}
 use Rattle.allocation.specs.Held.{Held, nothing}
 use Rattle.allocation.specs.Lengthened.{Quiet}
 use Rattle.allocation.proofs.HeldLawful.{held-rules, quiet-good, quiet-R1, in-one, Fields, fields-file}
@@ -27,9 +27,8 @@ use Rattle.allocation.proofs.RestatedLaws.{Restated, restated-parent, restated-
 use Rattle.allocation.proofs.GrownLawful.{rules-held}
 use Rattle.allocation.proofs.ChangeLaws.{changed-R9}
 use Rattle.requests.specs.Answers.{after}
-use Rattle.requests.specs.State.{putAttribute, putCounts, removed, recovered, protectionOf, protected, Removed, Recovered, Protected}
-use Rattle.requests.proofs.RequestLaws.{good-room}
-use Rattle.requests.proofs.MountKeeps.{done-keeps}
+use Rattle.requests.specs.State.{putState, putCounts, removed, recovered, protectionOf, protected, Removed, Recovered, Protected}
+use Rattle.requests.proofs.RequestLaws.{good-room, done-keeps}
 use Rattle.requests.proofs.StateLaws.{weights-few, active-some, system-some, directory-some, deleted-some, remove-valid, remove-asks, recover-valid, recover-asks, protect-valid, protect-asks}
 use Rattle.requests.proofs.StampLaws.{Recounted, same-counted, put-stamped, put-quiet, put-restated, put-fields, counts-recounted, counts-read}
 
@@ -60,7 +59,7 @@ after-pointer (suc r) new b b' f i j low high old g e h = ap₂ (λ (q : Places)
 module _ (p : Places) (b c : List ℕ) (f a : ℕ) (date : List ℕ) (lay : Layout p (length b)) (k : Recounted b c) (old : Lawful p b) (parent : Parent (viewOf p b) f)
     (valid : Date date) where
   abbrev d : List ℕ
-  d = putAttribute p c f a date
+  d = putState p c f a date
 
   restated : Restated (viewOf p b) (viewOf p d) f
   restated = put-restated p b c f a date lay k (parent .low) (parent .high) (valid .long)
@@ -160,9 +159,9 @@ module _ (p : Places) (b : List ℕ) (f : ℕ) (date : List ℕ) (g : Good b p) 
   abbrev a : ℕ
   a = attributeOf (tableAt p b f)
 
-  attributed-good : (c : List ℕ) (a' : ℕ) → Recounted b c → Alike a a' → R9 (viewOf p (putAttribute p c f a' date)) → Good (putAttribute p c f a' date) p
+  attributed-good : (c : List ℕ) (a' : ℕ) → Recounted b c → Alike a a' → R9 (viewOf p (putState p c f a' date)) → Good (putState p c f a' date) p
   attributed-good c a' k l r9 =
-      quiet-good b (putAttribute p c f a' date) p g (quiet p b c f a' date (g .layout) k (g .lawful) parent valid)
+      quiet-good b (putState p c f a' date) p g (quiet p b c f a' date (g .layout) k (g .lawful) parent valid)
       (attributed-lawful p b c f a' date (g .layout) k (g .lawful) parent valid (l .few) (l .variable) (l .directory) (l .system) r9)
 
   removed-good : deletedBit a ≡ 0 → Good (removed p b f date) p
@@ -209,7 +208,7 @@ module _ (p : Places) (b : List ℕ) (f : ℕ) (date : List ℕ) (g : Good b p) 
     same : Recounted b b
     same = same-counted b
 
-    pub steady-good : Good (putAttribute p b f a' date) p
+    pub steady-good : Good (putState p b f a' date) p
     steady-good =
         let l = alike-above a a' (weights-few b p g f parent) above in
         let count = recounted p b b f a' date (g .layout) same (g .lawful) parent valid in

@@ -1,5 +1,5 @@
 -- Temporary delete, recover and set protection: what a file's attribute and sector 1's counts allow, each way out, and that each promise
--- allows one result. Assumes nothing.
+-- allows one result.
 use mathlib.Core.Path.{_≡_, refl, ap, _∙_}
 use mathlib.Core.Logic.{_≢_}
 use mathlib.Core.Bool.{Bool, true}
@@ -12,22 +12,21 @@ use Rattle.field.proofs.Sums.{sum-part}
 use Rattle.field.proofs.Tests.{says-map}
 use Rattle.tables.specs.declared.places.Places.{Places}
 use Rattle.tables.specs.Dates.{Date}
-use Rattle.tables.specs.Indexes.{tableAt, wordOf, attributeOf}
+use Rattle.tables.specs.Indexes.{tableAt, wordOf, attributeOf, directoryBit, systemBit, deletedBit}
 use Rattle.tables.specs.Places.{placesOf}
 use Rattle.tables.specs.Sector1.{activeOf, deletedOf, systemOf, directoryOf}
 use Rattle.tables.specs.Gates.{Gate}
 use Rattle.tables.specs.Books.{Good}
-use Rattle.tables.specs.Rules.R8.{directoryBit, systemBit}
-use Rattle.tables.specs.Rules.R9.{deletedBit, activeOne, deletedOne, systemOne, directoryOne}
+use Rattle.tables.specs.Rules.R9.{activeOne, deletedOne, systemOne, directoryOne}
 use Rattle.tables.specs.Views.{View, viewOf, Parent, tally}
-use Rattle.tables.proofs.CountLaws.{ones-active, ones-deleted}
+use Rattle.tables.proofs.Sector1CountLaws.{ones-active, ones-deleted}
 use Rattle.tables.proofs.GateLaws.{gate-one, gate-stop, gate-skip, gate-rest, gate-front}
-use Rattle.requests.specs.Create.{argumentTests}
-use Rattle.requests.specs.Named.{stateTests, namedTests, usableTests}
-use Rattle.requests.specs.State.{putAttribute, putCounts, removed, recovered, protectionOf, protected, removeTests, Removed, recoverTests, Recovered, ProtectAllowed, protectTests, Protected}
+use Rattle.requests.specs.Answers.{argumentTests}
+use Rattle.requests.specs.Named.{askedTests, usableTests}
+use Rattle.requests.specs.State.{putState, putCounts, removed, recovered, protectionOf, protected, removeTests, Removed, recoverTests, Recovered, ProtectAllowed, protectTests, Protected}
 use Rattle.requests.proofs.RequestLaws.{after-refused, after-one, good-few}
-use Rattle.requests.proofs.CreateLaws.{argument-says, argument-allowed, argument-good, argument-room}
-use Rattle.requests.proofs.NamedLaws.{state-file, usable-active}
+use Rattle.requests.proofs.ArgumentLaws.{argument-says, argument-allowed, argument-good, argument-room}
+use Rattle.requests.proofs.NamedLaws.{asked-says, state-file, usable-active}
 
 -- ---- what the rules say of a file's attribute, and of sector 1's counts
 
@@ -99,16 +98,16 @@ module _ (b : List ℕ) (p : Places) (f : ℕ) (g : Good b p) (h : Parent (viewO
     restore-fits is = omega (arith, here)
 
     pub remove-is : (active deleted system directory : ℕ) (x y date : List ℕ) → (active ≡ activeOf b) → (deleted ≡ deletedOf b) → (system ≡ systemOf b) → (directory ≡ directoryOf b)
-        → x ≡ putCounts b (active - 1) (deleted + 1) (system - a / 64 % 2) (directory - a / 32 % 2) → y ≡ putAttribute p x f (a + 1) date → y ≡ removed p b f date
+        → x ≡ putCounts b (active - 1) (deleted + 1) (system - a / 64 % 2) (directory - a / 32 % 2) → y ≡ putState p x f (a + 1) date → y ≡ removed p b f date
     unfolding removed
     remove-is active deleted system directory x y date ea ed es er ex ey = rw (ey, ex, ea, ed, es, er, here)
 
     pub restore-is : (active deleted system directory : ℕ) (x y date : List ℕ) → (active ≡ activeOf b) → (deleted ≡ deletedOf b) → (system ≡ systemOf b) → (directory ≡ directoryOf b)
-        → x ≡ putCounts b (active + 1) (deleted - 1) (system + a / 64 % 2) (directory + a / 32 % 2) → y ≡ putAttribute p x f (a - 1) date → y ≡ recovered p b f date
+        → x ≡ putCounts b (active + 1) (deleted - 1) (system + a / 64 % 2) (directory + a / 32 % 2) → y ≡ putState p x f (a - 1) date → y ≡ recovered p b f date
     unfolding recovered
     restore-is active deleted system directory x y date ea ed es er ex ey = rw (ey, ex, ea, ed, es, er, here)
 
-    pub protect-is : (w r : ℕ) (y date : List ℕ) → r ≡ protectionOf a w → y ≡ putAttribute p b f r date → y ≡ protected p b f w date
+    pub protect-is : (w r : ℕ) (y date : List ℕ) → r ≡ protectionOf a w → y ≡ putState p b f r date → y ≡ protected p b f w date
     unfolding protected
     protect-is w r y date er ey = rw (ey, er, here)
 
@@ -124,13 +123,9 @@ module _ (b : List ℕ) (id : ℕ) (date : List ℕ) where
     unfolding removeTests
     remove-goes r e h = gate-skip (argumentTests b (Date date)) _ n r (argument-says b a _ n s g) e h
 
-    pub recover-stops : n ≢ 0 → Gate (recoverTests b id date) n
-    unfolding recoverTests
-    recover-stops ne = gate-stop (argumentTests b (Date date)) _ n (argument-says b a _ n s g) ne
-
-    pub recover-goes : (r : ℕ) → n ≡ 0 → Gate (stateTests 1 b id) r → Gate (recoverTests b id date) r
-    unfolding recoverTests
-    recover-goes r e h = gate-skip (argumentTests b (Date date)) _ n r (argument-says b a _ n s g) e h
+  pub recover-asked : (a : Bool) (n : ℕ) → Says a (Date date) → Gate (askedTests 1 b (a ≡ true) id) n → Gate (recoverTests b id date) n
+  unfolding recoverTests
+  recover-asked a n s g = asked-says 1 b id a (Date date) n s g
 
   module _ (n : ℕ) (g : Gate (removeTests b id date) n) (e : n ≡ 0) where
     remove-front : Gate (argumentTests b (Date date)) 0
@@ -187,14 +182,9 @@ module _ (w : ℕ) (date : List ℕ) where
   protect-says r e h s = says-map r (λ d. record { fours = e; most = h; date' = d }) (λ a. a .date') s
 
 module _ (b : List ℕ) (id w : ℕ) (date : List ℕ) where
-  module _ (a : Bool) (n : ℕ) (s : Says a (ProtectAllowed w date)) (g : Gate (argumentTests b (a ≡ true)) n) where
-    pub protect-stops : n ≢ 0 → Gate (protectTests b id w date) n
-    unfolding protectTests
-    protect-stops ne = gate-stop (argumentTests b (ProtectAllowed w date)) _ n (argument-says b a _ n s g) ne
-
-    pub protect-goes : (r : ℕ) → n ≡ 0 → Gate (namedTests b id) r → Gate (protectTests b id w date) r
-    unfolding protectTests
-    protect-goes r e h = gate-skip (argumentTests b (ProtectAllowed w date)) _ n r (argument-says b a _ n s g) e h
+  pub protect-asked : (a : Bool) (n : ℕ) → Says a (ProtectAllowed w date) → Gate (askedTests 0 b (a ≡ true) id) n → Gate (protectTests b id w date) n
+  unfolding protectTests
+  protect-asked a n s g = asked-says 0 b id a (ProtectAllowed w date) n s g
 
   module _ (n : ℕ) (g : Gate (protectTests b id w date) n) (e : n ≡ 0) where
     protect-front : Gate (argumentTests b (ProtectAllowed w date)) 0

@@ -1,4 +1,4 @@
--- Text: digits one by one, how many there are, and pieces written one behind the other. Assumes nothing.
+-- Text: digits one by one, how many there are, and pieces written one behind the other.
 use mathlib.Core.Path.{_≡_, refl, sym, ap, ap₂, _∙_}
 use mathlib.Core.List.{List, [], _∷_, _++_, append-assoc, append-nil}
 use Prim.Native.Nat.{ℕ, zero, suc, _+_, _-_, _*_, _/_, _%_, _^_, _≤_, _<_}

@@ -1,123 +1,40 @@
--- Write keeps the books good, and the body as long as it was: the rules hold of the books afterwards, at the same places. Assumes nothing.
+-- Write keeps the books good, and the body as long as it was: the rules hold of the books afterwards, at the same places.
 use mathlib.Core.Path.{_≡_, refl, sym, ap, ap₂, _∙_}
 use mathlib.Core.Logic.{_≢_}
 use mathlib.Core.Bool.{Bool, true, false, cond}
 use mathlib.Core.List.{List}
-use Prim.Native.Nat.{ℕ, zero, suc, _+_, _-_, _*_, _/_, _%_, _≤_, _<_}
-use native.Mathlib.Nat.{add-mul, mul-le-mul-right, div-mul-le-self}
+use Prim.Native.Nat.{ℕ, zero, suc, _+_, _*_, _/_, _≤_, _<_}
 use native.Mathlib.Decide.{ℕ-discrete}
 use native.Mathlib.Omega.{arith}
 use lib.Dec.{eqb}
 use lib.ListN.{length}
 use borrow.Author.Tests.{eq-eqb, ne-eqb, eqb-true}
-use Rattle.field.specs.Sum.{sumTo}
-use Rattle.field.proofs.Sums.{sum-le}
 use Rattle.tables.specs.declared.places.Places.{Places}
-use Rattle.tables.specs.Blocks.{blockOf}
 use Rattle.tables.specs.Books.{Good}
 use Rattle.tables.specs.Dates.{Date}
 use Rattle.tables.specs.Gates.{Gate}
-use Rattle.tables.specs.Indexes.{tableAt, lengthOf, attributeOf}
+use Rattle.tables.specs.Indexes.{attributeOf, variableBit}
 use Rattle.tables.specs.Places.{placesOf, Layout}
 use Rattle.tables.specs.Lawful.{Lawful}
-use Rattle.tables.specs.Room.{countAt, perZone, typeIn, takenOf, Supply}
-use Rattle.tables.specs.Rules.R8.{fileSectors, fileType, variableBit}
+use Rattle.tables.specs.Rules.R8.{fileSectors}
 use Rattle.tables.specs.Sector1.{flagOf}
-use Rattle.tables.specs.Views.{View, viewOf, Parent, onlyIf}
-use Rattle.tables.proofs.CountLaws.{only-eq, only-le}
-use Rattle.tables.proofs.GateLaws.{gate-head}
-use Rattle.allocation.specs.Files.{blocksFor}
-use Rattle.allocation.proofs.FileLaws.{count-only}
-use Rattle.allocation.proofs.GrownLawful.{lawful-typed, blocks-enough}
-use Rattle.allocation.proofs.RestatedLaws.{Restated, restated-parent}
+use Rattle.tables.specs.Views.{viewOf, Parent}
 use Rattle.files.specs.Moves.{filled, Movable}
 use Rattle.files.proofs.MoveLaws.{length-filled}
-use Rattle.files.proofs.PlaceLaws.{sectors-most}
 use Rattle.requests.specs.declared.amount.Amount.{Amount}
 use Rattle.requests.specs.declared.answer.Answer.{Answer}
 use Rattle.requests.specs.Answers.{after, numberOf}
-use Rattle.requests.specs.Format.{sizeOf}
-use Rattle.requests.specs.Grow.{growCounts, lackTests, grownTo}
+use Rattle.requests.specs.Amounts.{amountValue}
+use Rattle.requests.specs.Grow.{lackTests, grownTo}
 use Rattle.requests.specs.Named.{fileBytes}
-use Rattle.requests.specs.Read.{wholeSectors}
-use Rattle.requests.specs.Write.{WriteAllowed, Within, askedLength, writeTests, settled, settle, writtenBooks, writtenBody, Wrote}
+use Rattle.requests.specs.Moving.{wholeSectors}
+use Rattle.requests.specs.Write.{WriteAllowed, Within, askedLength, writeTests, settle, writtenBooks, writtenBody, Wrote}
 use Rattle.requests.proofs.RequestLaws.{good-room}
 use Rattle.requests.proofs.CreateKeeps.{grown-keeps}
-use Rattle.requests.proofs.StampLaws.{same-counted, put-stamped, put-restated, put-fields}
-use Rattle.requests.proofs.StateKeeps.{steady-good}
-use Rattle.requests.proofs.ReadLaws.{file-here}
+use Rattle.requests.proofs.MovingLaws.{file-here}
 use Rattle.requests.proofs.WriteLaws.{asked-variable, Grown, grown-is, write-allows, write-good, write-parent, write-sized, write-within, write-lack}
-
--- ---- a file for which there is room stays below 2,147,483,648 bytes
-
-sum-times : (n s : ℕ) (f : ℕ → ℕ) → ((k : ℕ) → k < n → f k * s ≤ 1024) → sumTo n f * s ≤ 1024 * n
-unfolding sumTo
-sum-times zero s f h = omega arith
-sum-times (suc n) s f h = omega (arith, add-mul (sumTo n f) (f n) s, sum-times n s f (λ k l. h k (omega arith)), h n (omega arith))
-
--- the taken blocks of a type are of no more sectors than there are between the system zones
-taken-few : (v : View) (given : ℕ → ℕ) (taken : ℕ → ℕ → Bool) (t : ℕ) → takenOf v given taken t * blockOf t ≤ 1024 * (v .zones - 2)
-unfolding takenOf
-taken-few v given taken t = sum-times (v .zones - 2) (blockOf t) (λ i. onlyIf (eqb (typeIn v given (i + 2)) t) (inside i)) (λ i l. one i)
-  where
-    inside : ℕ → ℕ
-    inside i = sumTo (perZone t) (λ k. onlyIf (taken (i + 2) k) 1)
-
-    few : (i : ℕ) → inside i ≤ perZone t
-    few i = sum-le (perZone t) (λ k. onlyIf (taken (i + 2) k) 1) (λ k l. only-le (taken (i + 2) k) 1)
-
-    one : (i : ℕ) → onlyIf (eqb (typeIn v given (i + 2)) t) (inside i) * blockOf t ≤ 1024
-    one i =
-        let l : onlyIf (eqb (typeIn v given (i + 2)) t) (inside i) ≤ perZone t = omega (arith, only-le (eqb (typeIn v given (i + 2)) t) (inside i), few i) in
-        omega (arith, mul-le-mul-right {m = onlyIf (eqb (typeIn v given (i + 2)) t) (inside i)} {n = perZone t} (blockOf t) l, div-mul-le-self 1024 (blockOf t))
-
-room-few : (b : List ℕ) (id long : ℕ) → Good b (placesOf b) → Parent (viewOf (placesOf b) b) id → Gate (lackTests b id long) 0 → lengthOf (fileBytes b id) < long → long < 2147483648
-unfolding lackTests
-room-few b id long g parent h l =
-    let p = placesOf b in
-    let v : View = viewOf p b in
-    let t : ℕ = fileType v id in
-    let n : ℕ = blocksFor v id long in
-    let typed = lawful-typed p b id (g .lawful) parent in
-    let s : Supply v (countAt (growCounts b id long)) = gate-head 12 _ _ h .0 l in
-    let is : takenOf v (s .given) (s .taken) t ≡ n = s .supplies t typed ∙ count-only t n t typed typed ∙ only-eq t t n refl in
-    let few : n * blockOf t ≤ 1024 * (v .zones - 2) = rw is at (taken-few v (s .given) (s .taken) t) in
-    omega (arith, blocks-enough v id long typed, few, sectors-most p b (g .layout) (g .lawful) id parent, g .layout .most)
-
--- ---- the attribute settled
-
-settled-above : (a : ℕ) → settled a / 16 ≡ a / 16
-unfolding settled
-settled-above a = omega arith
-
-settled-lowest : (a : ℕ) → settled a % 2 ≡ a % 2
-unfolding settled
-settled-lowest a = omega arith
-
--- in good books b' file id is as in b but for its attribute and date
-pub record Settled (b : List ℕ) (id : ℕ) (p : Places) (b' : List ℕ) : Type 0 where
-  pub good : Good b' p
-  pub restated : Restated (viewOf p b) (viewOf p b') id
-  pub parent : Parent (viewOf p b') id
-  pub flag : flagOf b' ≡ flagOf b
-  pub long : lengthOf (tableAt p b' id) ≡ lengthOf (tableAt p b id)
-
-settle-here : (b : List ℕ) (id : ℕ) (date : List ℕ) → Good b (placesOf b) → Parent (viewOf (placesOf b) b) id → Date date → Settled b id (placesOf b) (settle b id date)
-unfolding settle
-settle-here b id date g parent valid =
-    let p = placesOf b in
-    let a = attributeOf (fileBytes b id) in
-    let restated = put-restated p b b id (settled a) date (g .layout) (same-counted b) (parent .low) (parent .high) (valid .long) in
-    record {
-      good = steady-good p b id date g parent valid (settled a) (settled-above a) (settled-lowest a);
-      restated = restated;
-      parent = restated-parent (viewOf p b) _ id restated parent;
-      flag = put-stamped p b b id (settled a) date (g .layout) (same-counted b) (parent .low) (parent .high) (valid .long) .counts .flag;
-      long = put-fields p b b id (settled a) date (g .layout) (same-counted b) (parent .low) (parent .high) (valid .long) .long';
-    }
-
-settle-keeps : (b : List ℕ) (id : ℕ) (date : List ℕ) (p : Places) → Good b p → Parent (viewOf p b) id → Date date → Settled b id p (settle b id date)
-settle-keeps b id date p g parent valid = rw (g .places) (settle-here b id date (rw (g .places) at g) (rw (g .places) at parent) valid)
+use Rattle.requests.proofs.WriteRoom.{room-few}
+use Rattle.requests.proofs.SettleLaws.{Settled, settle-keeps}
 
 -- ---- the books written
 
@@ -174,7 +91,7 @@ module _ (b : List ℕ) (id at n : ℕ) (date : List ℕ) (g : Good b (placesOf 
           let a = attributeOf (fileBytes b id) in
           let most = file-here (settle b₁ id date) (placesOf b) id (settles .good) (settles .parent) .most in
           elim (ℕ-discrete (variableBit a) 1) [
-            | yes e ↦ omega (arith, asked-variable b (placesOf b) id at n g (fileBytes b id) refl a refl ne e, settles .long, grown .long', most)
+            | yes e ↦ omega (arith, asked-variable b id at n ne e, settles .long, grown .long', most)
             | no nv ↦ omega (arith, w .fixed (omega arith), settles .long, grown .more, most)
           ]
 
@@ -182,10 +99,10 @@ module _ (b : List ℕ) (id at n : ℕ) (date : List ℕ) (g : Good b (placesOf 
 
 module _ (b body : List ℕ) (id : ℕ) (position long : Amount) (room : ℕ) (date : List ℕ) (m : ℕ) (h : Gate (writeTests b body id position long room date) m) (e : m ≡ 0) where
   abbrev at : ℕ
-  at = sizeOf position
+  at = amountValue position
 
   abbrev n : ℕ
-  n = wholeSectors (sizeOf long)
+  n = wholeSectors (amountValue long)
 
   abbrev new : List ℕ
   new = writtenBooks b id at n date
@@ -217,7 +134,7 @@ module _ (b body : List ℕ) (id : ℕ) (position long : Amount) (room : ℕ) (d
       }
 
   -- once the books are written: what moving the sectors asks
-  module _ (x y w : ℕ) (place : x ≡ sizeOf position) (wanted : y ≡ sizeOf long) (whole : w ≡ wholeSectors y) (b' : List ℕ) (is : b' ≡ writtenBooks b id x w date) where
+  module _ (x y w : ℕ) (place : x ≡ amountValue position) (wanted : y ≡ amountValue long) (whole : w ≡ wholeSectors y) (b' : List ℕ) (is : b' ≡ writtenBooks b id x w date) where
     amount : w ≡ n
     amount = whole ∙ ap wholeSectors wanted
 
@@ -241,10 +158,10 @@ module _ (b body : List ℕ) (id : ℕ) (position long : Amount) (room : ℕ) (d
 
 module _ (b body : List ℕ) (id : ℕ) (position long : Amount) (x : Bool) (input date : List ℕ) where
   abbrev at' : ℕ
-  at' = sizeOf position
+  at' = amountValue position
 
   abbrev n' : ℕ
-  n' = wholeSectors (sizeOf long)
+  n' = wholeSectors (amountValue long)
 
   none-long : n' ≡ 0 → length (writtenBody b id at' n' x input date body) ≡ length body
   unfolding writtenBody filled
@@ -254,7 +171,7 @@ module _ (b body : List ℕ) (id : ℕ) (position long : Amount) (x : Bool) (inp
   unfolding writtenBody
   some-long h ne =
       let c = writtenBooks b id at' n' date in
-      let asks = wrote-asks b body id position long (length input) date 0 h refl at' (sizeOf long) n' refl refl refl c refl (placesOf c) refl ne in
+      let asks = wrote-asks b body id position long (length input) date 0 h refl at' (amountValue long) n' refl refl refl c refl (placesOf c) refl ne in
       length-filled (placesOf c) c (asks .0) (asks .1 .0) id (at' / 1024) (n' / 1024) x input body (asks .1 .1)
 
   -- README's promise 3, "the nine book rules still hold": after write; and the body is as long as it was

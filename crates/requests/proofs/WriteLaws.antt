@@ -1,10 +1,10 @@
--- Write: each way out, what its parts ask, the books once the file has grown, and that the promise allows one result. Assumes nothing.
+-- Write: each way out, what its parts ask, the books once the file has grown, and that the promise allows one result.
 use mathlib.Core.Path.{_≡_, refl, sym, ap, ap₂, _∙_}
 use mathlib.Core.Logic.{_≢_}
 use mathlib.Core.Bool.{Bool, not, true, false}
 use mathlib.Core.List.{List}
 use Prim.Native.Nat.{ℕ, zero, suc, _+_, _-_, _*_, _/_, _%_, _≤_, _<_}
-use native.Mathlib.Decide.{decLt}
+use native.Mathlib.Decide.{ℕ-discrete, decLt}
 use native.Mathlib.Omega.{arith}
 use lib.Dec.{leb}
 use lib.ListN.{length}
@@ -15,14 +15,13 @@ use Rattle.tables.specs.declared.places.Places.{Places}
 use Rattle.tables.specs.Books.{Good}
 use Rattle.tables.specs.Dates.{Date}
 use Rattle.tables.specs.Gates.{Gate}
-use Rattle.tables.specs.Indexes.{tableAt, lengthOf, attributeOf}
+use Rattle.tables.specs.Indexes.{tableAt, lengthOf, attributeOf, variableBit}
 use Rattle.tables.specs.Places.{placesOf, Layout}
-use Rattle.tables.specs.Rules.R8.{variableBit}
 use Rattle.tables.specs.Sector1.{flagOf}
 use Rattle.tables.specs.Views.{viewOf, Parent}
 use Rattle.tables.proofs.GateLaws.{gate-one, gate-fails, gate-passes, gate-stop, gate-skip, gate-rest, gate-head, gate-front}
 use Rattle.allocation.specs.Choice.{inOrder}
-use Rattle.allocation.specs.Files.{grown}
+use Rattle.allocation.specs.MadeFiles.{grown}
 use Rattle.allocation.proofs.FileLaws.{ready-grow}
 use Rattle.allocation.proofs.HeldLawful.{quiet-places}
 use Rattle.allocation.proofs.GrownLawful.{length-resized, grown-lengthened, grown-calm, grown-parent, grown-long, grown-attribute}
@@ -30,21 +29,20 @@ use Rattle.files.specs.Moves.{filled}
 use Rattle.requests.specs.declared.amount.Amount.{Amount}
 use Rattle.requests.specs.declared.answer.Answer.{Answer}
 use Rattle.requests.specs.declared.answer.Answer.the-variants.{Done, Refused}
-use Rattle.requests.specs.Answers.{numberOf}
+use Rattle.requests.specs.Answers.{numberOf, argumentTests}
 use Rattle.requests.specs.Body.{BodySized, bodyTests}
-use Rattle.requests.specs.Create.{argumentTests}
-use Rattle.requests.specs.Format.{sizeOf}
+use Rattle.requests.specs.Amounts.{amountValue}
 use Rattle.requests.specs.Grow.{growCounts, lackTests, grownTo}
-use Rattle.requests.specs.Named.{fileBytes}
-use Rattle.requests.specs.Read.{wholeSectors, endOf, MoveAllowed}
-use Rattle.requests.specs.State.{putAttribute}
+use Rattle.requests.specs.Named.{fileBytes, VariableSize}
+use Rattle.requests.specs.Moving.{wholeSectors, endOf, MoveAllowed}
+use Rattle.requests.specs.State.{putState}
 use Rattle.requests.specs.Write.{WriteAllowed, Within, askedLength, moveTests, writeTests, settle, writtenBooks, writtenBody, Wrote, Writes}
 use Rattle.requests.proofs.RequestLaws.{after-one, answers-one}
-use Rattle.requests.proofs.CreateLaws.{argument-says, argument-allowed, argument-good}
-use Rattle.requests.proofs.NamedLaws.{attribute-read, body-usable}
+use Rattle.requests.proofs.ArgumentLaws.{says-this, argument-says, argument-allowed, argument-good}
+use Rattle.requests.proofs.NamedLaws.{body-usable, body-parent}
 use Rattle.requests.proofs.FixedLaws.{le-says}
-use Rattle.requests.proofs.GrowLaws.{lack-provided, not-below}
-use Rattle.requests.proofs.ReadLaws.{body-parent}
+use Rattle.requests.proofs.AmountLaws.{signed-most}
+use Rattle.requests.proofs.LongerLaws.{lack-provided}
 use Rattle.requests.proofs.FlagLaws.{flag-turn}
 
 -- ---- arguments
@@ -58,25 +56,29 @@ module _ (position long : Amount) (room : ℕ) (date : List ℕ) (r : Bool) (s :
 
 -- ---- where may be written, and what length that asks for
 
-module _ (b : List ℕ) (p : Places) (id at n : ℕ) (g : Good b p) (t : List ℕ) (bytes : t ≡ tableAt p b id) (a : ℕ) (is : a ≡ attributeOf t) where
-  variable : variableBit a ≡ variableBit (attributeOf (fileBytes b id))
-  variable = ap variableBit (attribute-read b p id g t bytes a is)
+fixed-bit : (a : ℕ) → variableBit a ≢ 1 → variableBit a ≡ 0
+fixed-bit a ne = elim (ℕ-discrete (variableBit a) 1) [ yes e ↦ absurd (ne e) | no n ↦ omega arith ]
 
-  module _ (end : ℕ) (ends : end ≡ endOf b id) (le : at ≤ end) where
-    pub within-variable : a / 16 % 2 ≢ 0 → Within b id at n
-    within-variable ne = record { position = rw ends at le; fixed = λ z. absurd (ne (variable ∙ z)) }
-
-    pub within-fixed : a / 16 % 2 ≡ 0 → Says (leb (at + n) end) (Within b id at n)
-    within-fixed z =
-        le-says (Within b id at n) (at + n) end (λ l. record { position = rw ends at le; fixed = λ _. rw ends at l }) (λ w. rw ends (w .fixed (sym variable ∙ z)))
-
-  pub asked-fixed : n ≢ 0 → a / 16 % 2 ≢ 1 → 0 ≡ askedLength b id at n
+module _ (b : List ℕ) (id at n : ℕ) where
+  pub asked-variable : n ≢ 0 → VariableSize b id → at + n ≡ askedLength b id at n
   unfolding askedLength
-  asked-fixed ne nv = rw (ne-eqb n 0 ne, ne-eqb (variableBit (attributeOf (fileBytes b id))) 1 (λ z. nv (variable ∙ z)))
+  asked-variable ne v = rw (ne-eqb n 0 ne, eq-eqb (variableBit (attributeOf (fileBytes b id))) 1 v)
 
-  pub asked-variable : n ≢ 0 → a / 16 % 2 ≡ 1 → at + n ≡ askedLength b id at n
-  unfolding askedLength
-  asked-variable ne one = rw (ne-eqb n 0 ne, eq-eqb (variableBit (attributeOf (fileBytes b id))) 1 (sym variable ∙ one))
+  module _ (r : Bool) (s : Says r (VariableSize b id)) where
+    module _ (end : ℕ) (ends : end ≡ endOf b id) (le : at ≤ end) where
+      pub within-variable : r ≡ true → Within b id at n
+      within-variable h = record { position = rw ends at le; fixed = λ z. let v : VariableSize b id = says-this r _ s h in absurd (omega arith) }
+
+      pub within-fixed : r ≡ false → Says (leb (at + n) end) (Within b id at n)
+      within-fixed h =
+          le-says (Within b id at n) (at + n) end (λ l. record { position = rw ends at le; fixed = λ _. rw ends at l }) (λ w. rw ends (w .fixed (fixed-bit (attributeOf (fileBytes b id)) (rw h at s))))
+
+    pub asked-fixed : n ≢ 0 → not r ≡ true → 0 ≡ askedLength b id at n
+    unfolding askedLength
+    asked-fixed ne h = rw (ne-eqb n 0 ne, ne-eqb (variableBit (attributeOf (fileBytes b id))) 1 (refused r s h))
+
+    pub asked-more : n ≢ 0 → not r ≡ false → at + n ≡ askedLength b id at n
+    asked-more ne h = asked-variable ne (passed r s h)
 
 pub asked-none : (b : List ℕ) (id at n : ℕ) → n ≡ 0 → 0 ≡ askedLength b id at n
 unfolding askedLength
@@ -104,15 +106,15 @@ module _ (b body : List ℕ) (id : ℕ) (position long : Amount) (room : ℕ) (d
     unfolding writeTests
     write-stops ne = gate-stop (argumentTests b (WriteAllowed position long room date)) _ n (argument-says b a _ n s g) ne
 
-    module _ (e : n ≡ 0) (x y w : ℕ) (place : x ≡ sizeOf position) (wanted : y ≡ sizeOf long) (whole : w ≡ wholeSectors y) where
+    module _ (e : n ≡ 0) (x y w : ℕ) (place : x ≡ amountValue position) (wanted : y ≡ amountValue long) (whole : w ≡ wholeSectors y) where
       moves : MoveAllowed position long room
       moves = argument-allowed b (WriteAllowed position long room date) n (argument-says b a _ n s g) e .move
 
       pub write-early : x ≤ 2147483647
-      write-early = rw place (not-below position (moves .position'))
+      write-early = rw place (signed-most position (moves .position'))
 
       pub write-short : w ≤ 2147483647
-      write-short = omega (arith, not-below long (moves .long'))
+      write-short = omega (arith, signed-most long (moves .long'))
 
       pub write-goes : (r : ℕ) → Gate (moveTests b body id x w) r → Gate (writeTests b body id position long room date) r
       unfolding writeTests
@@ -124,7 +126,7 @@ module _ (b body : List ℕ) (id : ℕ) (position long : Amount) (room : ℕ) (d
     unfolding writeTests
     front = gate-front (argumentTests b (WriteAllowed position long room date)) _ (rw e at h)
 
-    rest : Gate (moveTests b body id (sizeOf position) (wholeSectors (sizeOf long))) 0
+    rest : Gate (moveTests b body id (amountValue position) (wholeSectors (amountValue long))) 0
     unfolding writeTests
     rest = gate-rest (argumentTests b (WriteAllowed position long room date)) _ (rw e at h)
 
@@ -144,21 +146,21 @@ module _ (b body : List ℕ) (id : ℕ) (position long : Amount) (room : ℕ) (d
     pub write-sized : BodySized b body
     write-sized = body-usable 4 b body id body-fine .0
 
-    pub write-within : Within b id (sizeOf position) (wholeSectors (sizeOf long))
+    pub write-within : Within b id (amountValue position) (wholeSectors (amountValue long))
     unfolding moveTests
     write-within = gate-head 14 _ _ (gate-rest (bodyTests 4 b body id) _ rest) .0
 
-    pub write-lack : Gate (lackTests b id (askedLength b id (sizeOf position) (wholeSectors (sizeOf long)))) 0
+    pub write-lack : Gate (lackTests b id (askedLength b id (amountValue position) (wholeSectors (amountValue long)))) 0
     unfolding moveTests
     write-lack = gate-head 14 _ _ (gate-rest (bodyTests 4 b body id) _ rest) .1
 
     -- what the writing of the books asks
-    pub write-writes : (x y w : ℕ) → x ≡ sizeOf position → y ≡ sizeOf long → w ≡ wholeSectors y → w ≢ 0 → Writes b id x w date
+    pub write-writes : (x y w : ℕ) → x ≡ amountValue position → y ≡ amountValue long → w ≡ wholeSectors y → w ≢ 0 → Writes b id x w date
     write-writes x y w place wanted whole ne =
         let a = write-allows .move in
         record {
           some = ne;
-          small = omega (arith, not-below position (a .position'), not-below long (a .long'));
+          small = omega (arith, signed-most position (a .position'), signed-most long (a .long'));
           room = rw (whole, wanted, place) write-lack;
           date' = write-allows .date' .long;
         }
@@ -172,7 +174,7 @@ module _ (b : List ℕ) (p : Places) (is : p ≡ placesOf b) where
   pub settle-high : (id : ℕ) → id ≤ placesOf b .indexes → id ≤ p .indexes
   settle-high id hi = rw is hi
 
-  pub settle-is : (id : ℕ) (t : List ℕ) (a : ℕ) (date b' : List ℕ) → t ≡ tableAt p b id → a ≡ attributeOf t → b' ≡ putAttribute p b id (a - a / 2 % 2 * 2) date → b' ≡ settle b id date
+  pub settle-is : (id : ℕ) (t : List ℕ) (a : ℕ) (date b' : List ℕ) → t ≡ tableAt p b id → a ≡ attributeOf t → b' ≡ putState p b id (a - a / 2 % 2 * 2) date → b' ≡ settle b id date
   unfolding settle
   settle-is id t a date b' bytes read h = rw (h, read, bytes, is)
 
@@ -246,20 +248,20 @@ module _ (b body : List ℕ) (id : ℕ) (position long : Amount) (x : Bool) (inp
   write-refused zero g h = absurd (h refl)
   write-refused (suc k) g h = record { number = g; answer = refl; books = refl; body'' = refl }
 
-  module _ (m : ℕ) (g : Gate (writeTests b body id position long (length input) date) m) (e : m ≡ 0) (at y n : ℕ) (place : at ≡ sizeOf position) (wanted : y ≡ sizeOf long) (whole : n ≡ wholeSectors y) where
-    amount : n ≡ wholeSectors (sizeOf long)
+  module _ (m : ℕ) (g : Gate (writeTests b body id position long (length input) date) m) (e : m ≡ 0) (at y n : ℕ) (place : at ≡ amountValue position) (wanted : y ≡ amountValue long) (whole : n ≡ wholeSectors y) where
+    amount : n ≡ wholeSectors (amountValue long)
     amount = whole ∙ ap wholeSectors wanted
 
     -- "Zero bytes after rounding changes nothing"
     pub write-nothing : n ≡ 0 → Wrote b body id position long x input date (Done 0) b body
     unfolding writtenBooks writtenBody filled
     write-nothing z =
-        let none : wholeSectors (sizeOf long) ≡ 0 = sym amount ∙ z in
+        let none : wholeSectors (amountValue long) ≡ 0 = sym amount ∙ z in
         record {
           number = rw e at g;
           answer = ap Done (sym none);
-          books = sym (ap (λ (k : ℕ). writtenBooks b id (sizeOf position) k date) none);
-          body'' = sym (ap (λ (k : ℕ). writtenBody b id (sizeOf position) k x input date body) none);
+          books = sym (ap (λ (k : ℕ). writtenBooks b id (amountValue position) k date) none);
+          body'' = sym (ap (λ (k : ℕ). writtenBody b id (amountValue position) k x input date body) none);
         }
 
     pub write-done : (b' body' : List ℕ) (p : Places) → b' ≡ writtenBooks b id at n date → p ≡ placesOf b' → body' ≡ filled (viewOf p b') id (at / 1024) x input body (n / 1024)

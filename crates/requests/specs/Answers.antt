@@ -13,9 +13,19 @@ abbrev pub after : ℕ → List ℕ → List ℕ → List ℕ
 after zero new old = new
 after (suc k) new old = old
 
--- numbers 1 to 5, which begin all requests but format, mount and report: 5 "flag 0"
+-- ---- the numbers that begin a request
+
+-- 1 to 4, then n where the flag is f
+abbrev pub flagTests : ℕ → ℕ → List ℕ → List Test
+flagTests f n b = bookTests b ++ (asks n (flagOf b ≢ f) ∷ [])
+
+-- 1 to 5, which begin all requests but format, mount and report: 5 "flag 0"
 unfoldable pub useTests : List ℕ → List Test
-useTests b = bookTests b ++ (asks 5 (flagOf b ≢ 0) ∷ [])
+useTests b = flagTests 0 5 b
+
+-- 1 to 5, then 7 "an argument not allowed here"
+unfoldable pub argumentTests : List ℕ → Type 0 → List Test
+argumentTests b allowed = useTests b ++ (asks 7 allowed ∷ [])
 
 -- ---- an answer with one value
 

@@ -1,14 +1,14 @@
 -- Create fixed and create variable. "Both creates take a kind: 0 plain, 1 directory, 2 system."
 use mathlib.Core.Path.{_≡_}
 use mathlib.Core.List.{List, [], _∷_, _++_}
-use Prim.Native.Nat.{ℕ, zero, suc, _+_, _*_, _%_, _≤_}
+use Prim.Native.Nat.{ℕ, zero, suc, _+_, _*_, _≤_}
 use lib.Dec.{eqb}
 use lib.ListN.{replicate}
 use Rattle.tables.specs.declared.places.Places.{Places}
 use Rattle.tables.specs.declared.counts.Chosen.{Chosen}
 use Rattle.tables.specs.declared.counts.Chosen.the-variants.{Types, Bad}
 use Rattle.tables.specs.Blocks.{Typed}
-use Rattle.tables.specs.Counts.{countsOf, blockBytes}
+use Rattle.tables.specs.Counts.{countsOf, blockBytes, Countable}
 use Rattle.tables.specs.Dates.{Date}
 use Rattle.tables.specs.Names.{NewName}
 use Rattle.tables.specs.Places.{placesOf}
@@ -17,22 +17,18 @@ use Rattle.tables.specs.Gates.{Test, asks, Gate}
 use Rattle.tables.specs.Room.{countAt, Supply}
 use Rattle.tables.specs.Views.{viewOf}
 use Rattle.allocation.specs.declared.tail.Tail.{Tail}
-use Rattle.allocation.specs.Search.{find}
-use Rattle.allocation.specs.Tails.{noPointer}
+use Rattle.allocation.specs.Find.{find}
+use Rattle.allocation.specs.NextPointer.{noPointer}
 use Rattle.allocation.specs.NewTables.{New}
-use Rattle.allocation.specs.Files.{onlyCounts, TablesEnough, created}
+use Rattle.allocation.specs.MadeFiles.{onlyCounts, TablesEnough, created}
 use Rattle.requests.specs.declared.amount.Amount.{Amount}
 use Rattle.requests.specs.declared.amount.Amount.the-variants.{Below, Is}
 use Rattle.requests.specs.declared.create.Created.{Created}
 use Rattle.requests.specs.declared.create.Created.the-variants.{Done, Refused}
-use Rattle.requests.specs.Answers.{after, useTests}
-use Rattle.requests.specs.Format.{sizeOf}
+use Rattle.requests.specs.Answers.{after, argumentTests}
+use Rattle.requests.specs.Amounts.{amountValue}
 
 -- ---- what both share
-
--- 1 to 5, then 7 "an argument not allowed here"
-unfoldable pub argumentTests : List ℕ → Type 0 → List Test
-argumentTests b allowed = useTests b ++ (asks 7 allowed ∷ [])
 
 -- 12 "no room", of the paper's own sentence, and 13 "too few free index tables"
 unfoldable pub roomTests : Places → List ℕ → Tail → List ℕ → List Test
@@ -58,15 +54,9 @@ abbrev pub answerOf : ℕ → ℕ → Created
 answerOf zero id = Done (record { 0 = id })
 answerOf (suc k) id = Refused (suc k)
 
--- a file n is made in good books where there is room for its blocks
-pub record MakesFile (b : List ℕ) (counts : List ℕ) (n : New) (r : Created) (b' : List ℕ) : Type 0 where
-  pub number : Gate (roomTests (placesOf b) b noPointer counts) (numberOf r)
-  pub answer : r ≡ answerOf (numberOf r) (firstFreeOf b)
-  pub books : b' ≡ after (numberOf r) (created (placesOf b) b n counts) b
-
--- the promise of a create whose arguments are allowed or not, for blocks of these counts and a file n
-pub record Creates (b : List ℕ) (allowed : Type 0) (counts : List ℕ) (n : New) (r : Created) (b' : List ℕ) : Type 0 where
-  pub number : Gate (argumentTests b allowed ++ roomTests (placesOf b) b noPointer counts) (numberOf r)
+-- a create, after these tests: a file n with blocks of these counts is made where there is room for them
+pub record Creates (tests : List Test) (b : List ℕ) (counts : List ℕ) (n : New) (r : Created) (b' : List ℕ) : Type 0 where
+  pub number : Gate (tests ++ roomTests (placesOf b) b noPointer counts) (numberOf r)
   pub answer : r ≡ answerOf (numberOf r) (firstFreeOf b)
   pub books : b' ≡ after (numberOf r) (created (placesOf b) b n counts) b
 
@@ -76,26 +66,15 @@ attributeFor variable kind = 16 * variable + 32 * kind
 
 -- ---- create fixed
 
--- "file size, fixed: 1 to 2,147,483,647"
-abbrev pub SizeAllowed : Amount → Type 0
-SizeAllowed Below = ⊥
-SizeAllowed (Is n) = (1 ≤ n) × (n ≤ 2147483647)
-
--- "any sum of 4 (C), 8, 16, 32, 64, 128 (H)"
-pub record Weights (w : ℕ) : Type 0 where
-  pub fours : w % 4 ≡ 0
-  pub some : 4 ≤ w
-  pub six : w ≤ 252
-
--- the flag byte chooses such types; the default, and every sum of weights, is such a choice
-abbrev pub FlagAllowed : Chosen → Type 0
-FlagAllowed (Types w) = Weights w
-FlagAllowed Bad = ⊥
+-- "file size, fixed: 1 to 2,147,483,647"; "any sum of 4 (C), 8, 16, 32, 64, 128 (H)", which the default is too
+abbrev pub HasCounts : Chosen → Amount → Type 0
+HasCounts (Types w) (Is n) = Countable w n
+HasCounts (Types w) Below = ⊥
+HasCounts Bad size = ⊥
 
 pub record FixedAllowed (name : List ℕ) (size : Amount) (types : Chosen) (kind : ℕ) (date : List ℕ) : Type 0 where
   pub file : NewFile name kind date
-  pub size' : SizeAllowed size
-  pub types' : FlagAllowed types
+  pub counted : HasCounts types size
 
 -- the blocks of each type; none where an argument is not allowed
 abbrev pub countsFor : Chosen → Amount → List ℕ
@@ -105,7 +84,7 @@ countsFor Bad size = replicate 6 0
 
 abbrev pub CreatedFixed : List ℕ → List ℕ → Amount → Chosen → ℕ → List ℕ → Created → List ℕ → Type 0
 CreatedFixed b name size types kind date r b' =
-    Creates b (FixedAllowed name size types kind date) (countsFor types size) (record { name = name; date = date; length = sizeOf size; attribute = attributeFor 0 kind }) r b'
+    Creates (argumentTests b (FixedAllowed name size types kind date)) b (countsFor types size) (record { name = name; date = date; length = amountValue size; attribute = attributeFor 0 kind }) r b'
 
 -- ---- create variable: "the cell is a block's bytes, else 7; one block, length 0"
 
@@ -121,4 +100,4 @@ pub record VariableAllowed (name : List ℕ) (cell : Amount) (kind : ℕ) (date 
 
 abbrev pub CreatedVariable : List ℕ → List ℕ → Amount → ℕ → List ℕ → Created → List ℕ → Type 0
 CreatedVariable b name cell kind date r b' =
-    Creates b (VariableAllowed name cell kind date) (onlyCounts (cellType cell) 1) (record { name = name; date = date; length = 0; attribute = attributeFor 1 kind }) r b'
+    Creates (argumentTests b (VariableAllowed name cell kind date)) b (onlyCounts (cellType cell) 1) (record { name = name; date = date; length = 0; attribute = attributeFor 1 kind }) r b'

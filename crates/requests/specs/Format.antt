@@ -1,14 +1,14 @@
 -- "Format takes any books content and answers 1, 3 (limits, or S too small) or 7 (date, text longer than its field)."
 use mathlib.Core.Path.{_≡_}
-use Prim.Native.Nat.{ℕ, _≤_}
+use Prim.Native.Nat.{ℕ}
 use mathlib.Core.List.{List, [], _∷_}
 use lib.ListN.{length}
 use Rattle.tables.specs.Gates.{Test, asks, Gate}
 use Rattle.tables.specs.Books.{Sized}
-use Rattle.tables.specs.Dates.{Date}
 use Rattle.tables.specs.Format.{Label, Formattable, Writable, formatted}
 use Rattle.requests.specs.declared.amount.Amount.{Amount}
 use Rattle.requests.specs.declared.amount.Amount.the-variants.{Below, Is}
+use Rattle.requests.specs.Amounts.{amountValue}
 use Rattle.requests.specs.Answers.{after}
 
 -- Z and N are allowed, and the tables find room in books of len bytes
@@ -17,23 +17,10 @@ Fits len (Is z) (Is n) = Formattable len z n
 Fits len (Is z) Below = ⊥
 Fits len Below n = ⊥
 
--- no text is longer than its field, and the date is valid: `Writable`, whatever the id
-pub record Texts (application volume owner code date : List ℕ) : Type 0 where
-  pub app : length application ≤ 16
-  pub vol : length volume ≤ 32
-  pub own : length owner ≤ 32
-  pub cod : length code ≤ 32
-  pub day : Date date
-
 abbrev pub formatTests : List ℕ → Amount → Amount → Label → List Test
 formatTests b z n l = asks 1 (Sized b) ∷ asks 3 (Fits (length b) z n) ∷ asks 7 (Writable l) ∷ []
-
--- an amount that is not below 0
-abbrev pub sizeOf : Amount → ℕ
-sizeOf (Is n) = n
-sizeOf Below = 0
 
 -- format's promise: its number, and every byte of the books afterwards
 pub record Formatted (b : List ℕ) (z n : Amount) (l : Label) (r : ℕ) (b' : List ℕ) : Type 0 where
   pub number : Gate (formatTests b z n l) r
-  pub books : b' ≡ after r (formatted (length b) (sizeOf z) (sizeOf n) l) b
+  pub books : b' ≡ after r (formatted (length b) (amountValue z) (amountValue n) l) b

@@ -3,32 +3,25 @@
 use mathlib.Core.Path.{_≡_}
 use mathlib.Core.Bool.{cond}
 use mathlib.Core.List.{List, [], _∷_, _++_}
-use Prim.Native.Nat.{ℕ, _≤_, _<_}
+use Prim.Native.Nat.{ℕ, _<_}
 use lib.Dec.{ltb}
 use Rattle.tables.specs.Dates.{Date}
-use Rattle.tables.specs.Indexes.{lengthOf, attributeOf}
+use Rattle.tables.specs.Indexes.{lengthOf}
 use Rattle.tables.specs.Places.{placesOf}
 use Rattle.tables.specs.Gates.{Test, asks, Gate}
 use Rattle.tables.specs.Room.{countAt, Supply}
 use Rattle.tables.specs.Views.{viewOf}
-use Rattle.tables.specs.Rules.R8.{fileType, variableBit}
+use Rattle.tables.specs.Rules.R8.{fileType}
 use Rattle.allocation.specs.Last.{cursorOf}
-use Rattle.allocation.specs.Files.{onlyCounts, TablesEnough, blocksFor, grown}
+use Rattle.allocation.specs.MadeFiles.{onlyCounts, TablesEnough, blocksFor, grown}
 use Rattle.requests.specs.declared.amount.Amount.{Amount}
-use Rattle.requests.specs.declared.amount.Amount.the-variants.{Below, Is}
-use Rattle.requests.specs.Answers.{after}
-use Rattle.requests.specs.Create.{argumentTests}
-use Rattle.requests.specs.Format.{sizeOf}
-use Rattle.requests.specs.Named.{fileBytes, stateTests, namedTests, Unprotected}
-
--- "below 0 is 7"
-abbrev pub NotBelow : Amount → Type 0
-NotBelow Below = ⊥
-NotBelow (Is n) = n ≤ 2147483647
+use Rattle.requests.specs.Answers.{after, argumentTests}
+use Rattle.requests.specs.Amounts.{SignedAmount, amountValue}
+use Rattle.requests.specs.Named.{fileBytes, stateTests, namedTests, Unprotected, VariableSize}
 
 -- what grow asks of its arguments
 pub record GrowAllowed (long : Amount) (date : List ℕ) : Type 0 where
-  pub long' : NotBelow long
+  pub long' : SignedAmount long
   pub date' : Date date
 
 -- the blocks that file id lacks for so many bytes, by type
@@ -37,7 +30,7 @@ growCounts b id long = onlyCounts (fileType (viewOf (placesOf b) b) id) (blocksF
 
 -- 10, then 11 "grow of a fixed file"
 unfoldable pub kindTests : List ℕ → ℕ → List Test
-kindTests b id = asks 10 (Unprotected 4 b id) ∷ asks 11 (variableBit (attributeOf (fileBytes b id)) ≡ 1) ∷ []
+kindTests b id = asks 10 (Unprotected 4 b id) ∷ asks 11 (VariableSize b id) ∷ []
 
 -- where the wanted length is longer, 12 and 13
 unfoldable pub lackTests : List ℕ → ℕ → ℕ → List Test
@@ -53,7 +46,7 @@ fileTests b id long = namedTests b id ++ (kindTests b id ++ lackTests b id long)
 -- 1 to 5, 7, then these
 unfoldable pub growTests : List ℕ → ℕ → Amount → List ℕ → List Test
 unfolding fileTests
-growTests b id long date = argumentTests b (GrowAllowed long date) ++ fileTests b id (sizeOf long)
+growTests b id long date = argumentTests b (GrowAllowed long date) ++ fileTests b id (amountValue long)
 
 -- "if not longer, no byte changes"
 unfoldable pub grownTo : List ℕ → ℕ → ℕ → List ℕ → List ℕ
@@ -62,4 +55,4 @@ grownTo b id long date = cond (ltb (lengthOf (fileBytes b id)) long) (grown (pla
 -- grow's promise
 pub record Grew (b : List ℕ) (id : ℕ) (long : Amount) (date : List ℕ) (r : ℕ) (b' : List ℕ) : Type 0 where
   pub number : Gate (growTests b id long date) r
-  pub books : b' ≡ after r (grownTo b id (sizeOf long) date) b
+  pub books : b' ≡ after r (grownTo b id (amountValue long) date) b

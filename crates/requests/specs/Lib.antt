@@ -1,5 +1,6 @@
 pub mod Answers
 pub mod Amounts
+pub mod Judged
 pub mod Text
 pub mod Format
 pub mod Mount
@@ -10,11 +11,12 @@ pub mod Named
 pub mod Grow
 pub mod State
 pub mod Delete
+pub mod Active
 pub mod Search
 pub mod Listing
 pub mod Locate
 pub mod Body
 pub mod Show
+pub mod Moving
 pub mod Read
 pub mod Write
-pub mod History

@@ -11,9 +11,8 @@ use Rattle.tables.specs.Places.{placesOf}
 use Rattle.tables.specs.Gates.{Test, Gate}
 use Rattle.tables.specs.Views.{View, viewOf}
 use Rattle.requests.specs.declared.answer.Answer.{Answer}
-use Rattle.requests.specs.Answers.{after, numberOf, answerOf}
-use Rattle.requests.specs.Create.{argumentTests}
-use Rattle.requests.specs.Search.{isActive, passing}
+use Rattle.requests.specs.Answers.{after, numberOf, answerOf, argumentTests}
+use Rattle.requests.specs.Active.{isActive, passing}
 
 -- an active parent from the given id up
 unfoldable pub isListed : View → ℕ → ℕ → Bool
@@ -25,7 +24,7 @@ unfoldable pub listed : List ℕ → ℕ → ℕ → List ℕ
 unfolding isListed passing
 listed b from room = let v = viewOf (placesOf b) b in take (room / 64) (passing (isListed v from) (v .indexes))
 
--- their first 64 bytes, one behind the other
+-- their first 64 bytes, one after the other
 unfoldable pub fronts : View → List ℕ → List ℕ
 fronts v [] = []
 fronts v (i ∷ ids) = take 64 (v .table i) ++ fronts v ids

@@ -16,8 +16,8 @@ use Rattle.requests.specs.Named.{namedTests}
 abbrev pub HasSector : List ℕ → ℕ → ℕ → Type 0
 HasSector b id k = k < fileSectors (viewOf (placesOf b) b) id
 
-abbrev pub sectorOf : List ℕ → ℕ → ℕ → ℕ
-sectorOf b id k = kthSector (viewOf (placesOf b) b) id k
+abbrev pub kthOf : List ℕ → ℕ → ℕ → ℕ
+kthOf b id k = kthSector (viewOf (placesOf b) b) id k
 
 -- 1 to 5, 8, 9, then 14
 unfoldable pub locateTests : List ℕ → ℕ → ℕ → List Test
@@ -40,4 +40,4 @@ locatedAs (suc k) s = Refused (suc k)
 -- locate's promise
 pub record Locates (b : List ℕ) (id k : ℕ) (r : Located) : Type 0 where
   pub number : Gate (locateTests b id k) (numberOf r)
-  pub answer : r ≡ locatedAs (numberOf r) (sectorOf b id k)
+  pub answer : r ≡ locatedAs (numberOf r) (kthOf b id k)

@@ -4,43 +4,24 @@
 use mathlib.Core.Path.{_≡_}
 use mathlib.Core.Bool.{Bool, cond}
 use mathlib.Core.List.{List, [], _∷_, _++_}
-use Prim.Native.Nat.{ℕ, _-_, _*_, _/_, _%_, _≤_, _<_}
+use Prim.Native.Nat.{ℕ, _-_, _/_, _<_}
 use lib.Dec.{leb}
 use lib.ListN.{length}
-use Rattle.tables.specs.Indexes.{lengthOf}
 use Rattle.tables.specs.Places.{placesOf}
 use Rattle.tables.specs.Gates.{Test, asks, Gate}
-use Rattle.tables.specs.Rules.R1.{ceil}
 use Rattle.tables.specs.Views.{viewOf}
 use Rattle.files.specs.Moves.{fetched}
 use Rattle.requests.specs.declared.amount.Amount.{Amount}
 use Rattle.requests.specs.declared.answer.Answer.{Answer}
-use Rattle.requests.specs.Answers.{after, numberOf, answerOf}
+use Rattle.requests.specs.Answers.{after, numberOf, answerOf, argumentTests}
 use Rattle.requests.specs.Body.{bodyTests}
-use Rattle.requests.specs.Create.{argumentTests}
-use Rattle.requests.specs.Format.{sizeOf}
-use Rattle.requests.specs.Grow.{NotBelow}
-use Rattle.requests.specs.Named.{fileBytes}
-
--- "rounded down to a multiple of 1,024"
-abbrev pub wholeSectors : ℕ → ℕ
-wholeSectors n = n / 1024 * 1024
-
--- "the end is the byte length rounded up to 1,024"
-abbrev pub endOf : List ℕ → ℕ → ℕ
-endOf b id = 1024 * ceil (lengthOf (fileBytes b id)) 1024
-
--- what read and write ask of position, wanted length and buffer
-pub record MoveAllowed (position long : Amount) (room : ℕ) : Type 0 where
-  pub position' : NotBelow position
-  pub sector : sizeOf position % 1024 ≡ 0
-  pub long' : NotBelow long
-  pub buffer : wholeSectors (sizeOf long) ≤ room
+use Rattle.requests.specs.Amounts.{amountValue}
+use Rattle.requests.specs.Moving.{wholeSectors, endOf, MoveAllowed}
 
 -- 1 to 5, 7, 15, 8, 9, 10, then 14
 unfoldable pub readTests : List ℕ → List ℕ → ℕ → Amount → Amount → ℕ → List Test
 readTests b body id position long room =
-    argumentTests b (MoveAllowed position long room) ++ (bodyTests 8 b body id ++ (asks 14 (sizeOf position < endOf b id) ∷ []))
+    argumentTests b (MoveAllowed position long room) ++ (bodyTests 8 b body id ++ (asks 14 (amountValue position < endOf b id) ∷ []))
 
 -- "the smaller of it and what remains"
 unfoldable pub readAmount : List ℕ → ℕ → ℕ → ℕ → ℕ
@@ -53,5 +34,5 @@ readOut b body id at n exchange out = fetched (viewOf (placesOf b) b) id (at / 1
 -- read's promise
 pub record ReadOut (b body : List ℕ) (id : ℕ) (position long : Amount) (exchange : Bool) (out : List ℕ) (r : Answer) (out' : List ℕ) : Type 0 where
   pub number : Gate (readTests b body id position long (length out)) (numberOf r)
-  pub answer : r ≡ answerOf (numberOf r) (readAmount b id (sizeOf position) (sizeOf long))
-  pub output : out' ≡ after (numberOf r) (readOut b body id (sizeOf position) (readAmount b id (sizeOf position) (sizeOf long)) exchange out) out
+  pub answer : r ≡ answerOf (numberOf r) (readAmount b id (amountValue position) (amountValue long))
+  pub output : out' ≡ after (numberOf r) (readOut b body id (amountValue position) (readAmount b id (amountValue position) (amountValue long)) exchange out) out

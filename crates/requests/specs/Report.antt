@@ -3,7 +3,6 @@ use mathlib.Core.Path.{_≡_}
 use Prim.Native.Nat.{ℕ, zero, suc, _-_, _*_, _≤_}
 use mathlib.Core.List.{List, [], _∷_, _++_}
 use lib.ListN.{length, replicate}
-use Rattle.field.specs.Runs.{countBits}
 use Rattle.tables.specs.declared.places.Places.{Places}
 use Rattle.tables.specs.Sector1.{activeOf, deletedOf, freeOf, systemOf, directoryOf, flagOf}
 use Rattle.tables.specs.Places.{placesOf}
@@ -13,14 +12,15 @@ use Rattle.tables.specs.Views.{viewOf}
 use Rattle.tables.specs.Open.{openZones}
 use Rattle.requests.specs.declared.report.Figures.{Figures}
 use Rattle.requests.specs.declared.report.Text.{Text}
+use Rattle.requests.specs.Space.{usedSectors}
 use Rattle.requests.specs.Text.{lineOf}
 
--- what the report tells of the books b, whose tables stand at p; `used` is the number of set bits
+-- what the report tells of the books b, whose tables stand at p
 abbrev pub figuresOf : Places → List ℕ → Figures
 figuresOf p b = record {
   zones = p .zones;
   sectors = 1024 * p .zones;
-  used = countBits b (p .sectortable) 0 (1024 * p .zones);
+  used = usedSectors p b;
   indexes = p .indexes;
   free = freeOf b;
   active = activeOf b;
@@ -108,9 +108,9 @@ pub record Small (f : Figures) : Type 0 where
   pub openzones : f .openzones ≤ 254
   pub mounted : f .mounted ≤ 1
 
--- a text by value: its bytes, nulls behind them, and how many it has
-unfoldable pub textOf : List ℕ → Text
-textOf xs = record { bytes = xs ++ replicate (192 - length xs) 0; length = length xs }
+-- a text by value: its bytes, then nulls, and how many it has
+unfoldable pub asText : List ℕ → Text
+asText xs = record { bytes = xs ++ replicate (192 - length xs) 0; length = length xs }
 
 -- the report of books that are answered n
 abbrev pub reportOf : ℕ → List ℕ → List ℕ
@@ -121,5 +121,5 @@ reportOf (suc k) b = refusedLine (suc k)
 pub record Reported (b : List ℕ) (t : Text) : Type 0 where
   pub number : ℕ
   pub gate : Gate (bookTests b) number
-  pub text : t ≡ textOf (reportOf number b)
+  pub text : t ≡ asText (reportOf number b)
   pub short : length (reportOf number b) ≤ 192

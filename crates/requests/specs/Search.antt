@@ -3,41 +3,31 @@
 use mathlib.Core.Path.{_≡_}
 use mathlib.Core.Logic.{_≢_}
 use mathlib.Core.Bool.{Bool, cond, _&&_}
-use mathlib.Core.List.{List, [], _∷_, _++_}
-use Prim.Native.Nat.{ℕ, zero, suc, _≤_, _<_}
+use mathlib.Core.List.{List, [], _∷_}
+use Prim.Native.Nat.{ℕ, _≤_, _<_}
 use lib.Dec.{eqb}
 use lib.ListN.{length, getD, take}
 use Rattle.field.specs.Parts.{over}
-use Rattle.names.specs.Pattern.{matches}
+use Rattle.patterns.specs.Pattern.{matches}
 use Rattle.tables.specs.Indexes.{nameOf}
 use Rattle.tables.specs.Places.{placesOf}
 use Rattle.tables.specs.Gates.{Test, Gate}
-use Rattle.tables.specs.Rules.R9.{activeOne}
 use Rattle.tables.specs.Views.{View, viewOf}
 use Rattle.requests.specs.declared.answer.Answer.{Answer}
-use Rattle.requests.specs.Answers.{after, numberOf, answerOf}
-use Rattle.requests.specs.Create.{argumentTests}
+use Rattle.requests.specs.Active.{isActive, passing}
+use Rattle.requests.specs.Answers.{after, numberOf, answerOf, argumentTests}
 
 -- ---- which files
 
--- table i is an active file's parent: what rule R9 counts as one
-unfoldable pub isActive : View → ℕ → Bool
-isActive v i = eqb (activeOne i (v .table i)) 1
-
 -- the bytes before the first null
-unfoldable pub textOf : List ℕ → List ℕ
-textOf [] = []
-textOf (c ∷ s) = cond (eqb c 0) [] (c ∷ textOf s)
+unfoldable pub beforeNull : List ℕ → List ℕ
+beforeNull [] = []
+beforeNull (c ∷ s) = cond (eqb c 0) [] (c ∷ beforeNull s)
 
 -- an active file whose name matches
 unfoldable pub isMatch : View → List ℕ → ℕ → Bool
-unfolding isActive textOf
-isMatch v pattern i = isActive v i && matches pattern (textOf (nameOf (v .table i)))
-
--- the numbers from 1 to n that pass the test, ascending
-unfoldable pub passing : (ℕ → Bool) → ℕ → List ℕ
-passing test zero = []
-passing test (suc n) = passing test n ++ cond (test (suc n)) (suc n ∷ []) []
+unfolding isActive beforeNull
+isMatch v pattern i = isActive v i && matches pattern (beforeNull (nameOf (v .table i)))
 
 -- the ids of the files that match
 unfoldable pub found : List ℕ → List ℕ → List ℕ

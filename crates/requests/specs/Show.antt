@@ -8,7 +8,7 @@ use Rattle.files.specs.Moves.{bodyPlace, sectorContent}
 use Rattle.requests.specs.declared.show.Part.{Part}
 use Rattle.requests.specs.Answers.{useTests}
 use Rattle.requests.specs.Body.{bodyTests}
-use Rattle.requests.specs.Locate.{HasSector, sectorOf}
+use Rattle.requests.specs.Locate.{HasSector, kthOf}
 
 -- 1 to 5, 15, 8, 9, 10, then 14
 unfoldable pub showTests : List ℕ → List ℕ → ℕ → ℕ → List Test
@@ -23,7 +23,7 @@ partOf (suc k) s = record { at = 0; len = 0 }
 pub record ShownAt (b body : List ℕ) (id k : ℕ) (r : Part) : Type 0 where
   pub number : ℕ
   pub gate : Gate (showTests b body id k) number
-  pub part : r ≡ partOf number (sectorOf b id k)
+  pub part : r ≡ partOf number (kthOf b id k)
 
 -- the part itself
 abbrev pub bytesOf : ℕ → List ℕ → ℕ → List ℕ
@@ -34,4 +34,4 @@ bytesOf (suc k) body s = []
 pub record Shown (b body : List ℕ) (id k : ℕ) (part : List ℕ) : Type 0 where
   pub number : ℕ
   pub gate : Gate (showTests b body id k) number
-  pub bytes : part ≡ bytesOf number body (sectorOf b id k)
+  pub bytes : part ≡ bytesOf number body (kthOf b id k)

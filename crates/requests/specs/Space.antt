@@ -3,15 +3,17 @@ use mathlib.Core.Path.{_≡_}
 use Prim.Native.Nat.{ℕ, zero, suc, _*_}
 use mathlib.Core.List.{List}
 use Rattle.field.specs.Runs.{countBits}
-use Rattle.tables.specs.Sector0.{zonesOf, sectorStartOf}
+use Rattle.tables.specs.Sector0.{zonesOf}
+use Rattle.tables.specs.declared.places.Places.{Places}
+use Rattle.tables.specs.Places.{placesOf}
 use Rattle.tables.specs.Gates.{Gate}
 use Rattle.requests.specs.declared.space.Space.{Space}
 use Rattle.requests.specs.declared.space.Space.the-variants.{Is, Refused}
 use Rattle.requests.specs.Answers.{useTests}
 
--- the number of set bits of the sector table
-unfoldable pub usedSectors : List ℕ → ℕ
-usedSectors b = countBits b (1024 * sectorStartOf b) 0 (1024 * zonesOf b)
+-- the number of set bits of the sector table, where the books' tables stand at p
+unfoldable pub usedSectors : Places → List ℕ → ℕ
+usedSectors p b = countBits b (p .sectortable) 0 (1024 * p .zones)
 
 -- this paper's number and values of an answer
 abbrev pub numberOf : Space → ℕ
@@ -28,7 +30,7 @@ usedValue (Refused n) = 0
 
 -- the answer of a number: with its values where it is 0
 abbrev pub spaceOf : ℕ → List ℕ → Space
-spaceOf zero b = Is (1024 * zonesOf b) (usedSectors b)
+spaceOf zero b = Is (1024 * zonesOf b) (usedSectors (placesOf b) b)
 spaceOf (suc k) b = Refused (suc k)
 
 -- space's promise

@@ -7,7 +7,7 @@ use lib.ListN.{length, drop}
 use lib.Dec.{ltb}
 use Rattle.field.specs.Parts.{over}
 
--- n in decimal, at most f + 1 digits: its last digit behind those of n / 10
+-- n in decimal, at most f + 1 digits: its last digit after those of n / 10
 unfoldable pub digitsOf : ℕ → ℕ → List ℕ
 digitsOf zero n = (48 + n % 10) ∷ []
 digitsOf (suc f) n = cond (ltb n 10) ((48 + n) ∷ []) (digitsOf f (n / 10) ++ ((48 + n % 10) ∷ []))

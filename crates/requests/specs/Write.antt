@@ -9,22 +9,20 @@ use Prim.Native.Nat.{ℕ, _+_, _-_, _*_, _/_, _%_, _≤_, _<_}
 use lib.Dec.{eqb}
 use lib.ListN.{length}
 use Rattle.tables.specs.Dates.{Date}
-use Rattle.tables.specs.Indexes.{attributeOf}
+use Rattle.tables.specs.Indexes.{attributeOf, variableBit}
 use Rattle.tables.specs.Places.{placesOf}
 use Rattle.tables.specs.Gates.{Test, asks, Gate}
-use Rattle.tables.specs.Rules.R8.{variableBit}
 use Rattle.tables.specs.Views.{viewOf}
 use Rattle.files.specs.Moves.{filled}
 use Rattle.requests.specs.declared.amount.Amount.{Amount}
 use Rattle.requests.specs.declared.answer.Answer.{Answer}
-use Rattle.requests.specs.Answers.{after, numberOf, answerOf}
+use Rattle.requests.specs.Answers.{after, numberOf, answerOf, argumentTests}
 use Rattle.requests.specs.Body.{bodyTests}
-use Rattle.requests.specs.Create.{argumentTests}
-use Rattle.requests.specs.Format.{sizeOf}
+use Rattle.requests.specs.Amounts.{amountValue}
 use Rattle.requests.specs.Grow.{lackTests, grownTo}
 use Rattle.requests.specs.Named.{fileBytes}
-use Rattle.requests.specs.Read.{wholeSectors, endOf, MoveAllowed}
-use Rattle.requests.specs.State.{putAttribute}
+use Rattle.requests.specs.Moving.{wholeSectors, endOf, MoveAllowed}
+use Rattle.requests.specs.State.{putState}
 
 -- ---- the numbers
 
@@ -51,7 +49,7 @@ moveTests b body id at n = bodyTests 4 b body id ++ (asks 14 (Within b id at n) 
 unfoldable pub writeTests : List ℕ → List ℕ → ℕ → Amount → Amount → ℕ → List ℕ → List Test
 unfolding moveTests
 writeTests b body id position long room date =
-    argumentTests b (WriteAllowed position long room date) ++ moveTests b body id (sizeOf position) (wholeSectors (sizeOf long))
+    argumentTests b (WriteAllowed position long room date) ++ moveTests b body id (amountValue position) (wholeSectors (amountValue long))
 
 -- ---- the books
 
@@ -61,8 +59,8 @@ settled a = a - a / 2 % 2 * 2
 
 -- the file, once it has grown, with weight 2 cleared and the date stored
 unfoldable pub settle : List ℕ → ℕ → List ℕ → List ℕ
-unfolding settled putAttribute
-settle b id date = putAttribute (placesOf b) b id (settled (attributeOf (fileBytes b id))) date
+unfolding settled putState
+settle b id date = putState (placesOf b) b id (settled (attributeOf (fileBytes b id))) date
 
 -- "Zero bytes after rounding changes nothing"
 unfoldable pub writtenBooks : List ℕ → ℕ → ℕ → ℕ → List ℕ → List ℕ
@@ -79,9 +77,9 @@ writtenBody b id at n exchange input date body =
 -- write's promise
 pub record Wrote (b body : List ℕ) (id : ℕ) (position long : Amount) (exchange : Bool) (input date : List ℕ) (r : Answer) (b' body' : List ℕ) : Type 0 where
   pub number : Gate (writeTests b body id position long (length input) date) (numberOf r)
-  pub answer : r ≡ answerOf (numberOf r) (wholeSectors (sizeOf long))
-  pub books : b' ≡ after (numberOf r) (writtenBooks b id (sizeOf position) (wholeSectors (sizeOf long)) date) b
-  pub body'' : body' ≡ after (numberOf r) (writtenBody b id (sizeOf position) (wholeSectors (sizeOf long)) exchange input date body) body
+  pub answer : r ≡ answerOf (numberOf r) (wholeSectors (amountValue long))
+  pub books : b' ≡ after (numberOf r) (writtenBooks b id (amountValue position) (wholeSectors (amountValue long)) date) b
+  pub body'' : body' ≡ after (numberOf r) (writtenBody b id (amountValue position) (wholeSectors (amountValue long)) exchange input date body) body
 
 -- what the writing of the books asks: some bytes, and room for the growth
 pub record Writes (b : List ℕ) (id at n : ℕ) (date : List ℕ) : Type 0 where

@@ -1,5 +1,5 @@
 // Actual delete: a deleted file's blocks and tables are free.
-use crate::recover::recover_number;
+use crate::deleted::recover_number;
 use files::release::release_file;
 use tables::kinds::Index;
 use tables::places::read_places;
@@ -13,6 +13,7 @@ pub fn actual_delete(b: &mut [u8], id: u32, date: &[u8]) -> u32
         return n;
     }
     let p = read_places(b);
-    release_file(b, p, Index(id), date);
+    let f = Index(id);
+    release_file(b, p, f, date);
     0
 }

@@ -1,46 +1,46 @@
 // Create fixed: a file of a given size, in blocks of the chosen types.
 use crate::amount::Amount;
+use crate::amount::number_of;
+use crate::argument::argument_number;
 use crate::create::Created;
-use crate::create::argument_number;
-use crate::create::make_file;
-use crate::create::new_file_valid;
-use crate::format::number_of;
+use crate::make::make_file;
+use crate::make::new_file_valid;
 use tables::counts::Chosen;
 use tables::counts::counts;
 ghost use mathlib.Core.Path.{_≡_};
 ghost use Rattle.field.specs.Says.{Says};
-ghost use Rattle.requests.specs.Create.{SizeAllowed, FlagAllowed, FixedAllowed, countsFor, CreatedFixed};
+ghost use Rattle.tables.specs.Counts.{Countable};
+ghost use Rattle.requests.specs.Create.{FixedAllowed, countsFor, CreatedFixed, HasCounts};
 
-// Is the size that of a fixed file?
-fn size_allowed(size: Amount) -> bool
-    ensures { λ r. ⌜ Says r (SizeAllowed size) ⌝ }
+// Is w a sum of the six weights, and n the size of a fixed file?
+fn countable(w: u32, n: u32) -> bool
+    ensures { λ r. ⌜ Says r (Countable w n) ⌝ }
 {
-    match size {
-        Amount::Below => false,
-        Amount::Is(n) => {
-            if n > 2147483647 {
-                return false;
-            }
-            n >= 1
-        }
+    if w % 4 != 0 {
+        return false;
     }
+    if w < 4 {
+        return false;
+    }
+    if w > 252 {
+        return false;
+    }
+    if n > 2147483647 {
+        return false;
+    }
+    n >= 1
 }
 
-// Are the types some of the six?
-fn types_allowed(types: Chosen) -> bool
-    ensures { λ r. ⌜ Says r (FlagAllowed types) ⌝ }
+// Have types and size counts?
+fn have_counts(types: Chosen, size: Amount) -> bool
+    ensures { λ r. ⌜ Says r (HasCounts types size) ⌝ }
 {
     match types {
         Chosen::Bad => false,
-        Chosen::Types(w) => {
-            if w % 4 != 0 {
-                return false;
-            }
-            if w < 4 {
-                return false;
-            }
-            w <= 252
-        }
+        Chosen::Types(w) => match size {
+            Amount::Below => false,
+            Amount::Is(n) => countable(w, n),
+        },
     }
 }
 
@@ -50,15 +50,12 @@ fn fixed_allowed(name: &[u8], size: Amount, types: Chosen, kind: u32, date: &[u8
     if !new_file_valid(name, kind, date) {
         return false;
     }
-    if !size_allowed(size) {
-        return false;
-    }
-    types_allowed(types)
+    have_counts(types, size)
 }
 
 // The blocks of each type.
 fn counts_for(types: Chosen, size: Amount) -> [u32; 6]
-    requires { ⌜ SizeAllowed size × FlagAllowed types ⌝ }
+    requires { ⌜ HasCounts types size ⌝ }
     ensures { λ r. ⌜ r ≡ countsFor types size ⌝ }
 {
     match types {

@@ -1,9 +1,9 @@
 // Create variable: an empty file with one block of the type that the cell names.
 use crate::amount::Amount;
+use crate::argument::argument_number;
 use crate::create::Created;
-use crate::create::argument_number;
-use crate::create::make_file;
-use crate::create::new_file_valid;
+use crate::make::make_file;
+use crate::make::new_file_valid;
 use allocation::file::only_counts;
 use tables::blocks::block_sectors;
 ghost use mathlib.Core.Path.{_≡_};

@@ -1,6 +1,6 @@
 // Dismount: the flag becomes 0.
-use crate::mount::put_flag;
-use crate::space::use_number;
+use crate::judged::use_number;
+use tables::sector1::put_flag;
 ghost use Rattle.requests.specs.Mount.{Dismounted};
 
 pub fn dismount(b: &mut [u8]) -> u32

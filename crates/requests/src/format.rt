@@ -1,17 +1,16 @@
 // Format: fresh books, whatever stood there.
 use crate::amount::Amount;
-use tables::check::sized;
-use tables::check::stands;
+use crate::amount::number_of;
+use examination::check::sized;
+use examination::check::stands;
 use tables::date::date_valid;
 use tables::format::fresh_places;
 use tables::format::write_format;
-ghost use mathlib.Core.Path.{_≡_};
 ghost use Prim.Native.Nat.{_≤_};
-ghost use lib.ListN.{length};
 ghost use Rattle.field.specs.Says.{Says};
 ghost use Rattle.tables.specs.Gates.{Gate};
 ghost use Rattle.tables.specs.Format.{Formattable, Writable};
-ghost use Rattle.requests.specs.Format.{Fits, Texts, formatTests, sizeOf, Formatted};
+ghost use Rattle.requests.specs.Format.{Fits, formatTests, Formatted};
 
 // Are Z and N allowed, and is there room for their tables?
 fn formattable(len: usize, z: u32, n: u32) -> bool
@@ -46,9 +45,9 @@ fn fits(len: usize, zones: Amount, indexes: Amount) -> bool
     }
 }
 
-// Is no text longer than its field, and the date valid?
+// Is no text longer than its field, and the date valid? That is asked of any id alike.
 fn writable(application: &[u8], volume: &[u8], owner: &[u8], code: &[u8], date: &[u8]) -> bool
-    ensures { λ r. ⌜ Says r (Texts (now (application .entry)) (now (volume .entry)) (now (owner .entry)) (now (code .entry)) (now (date .entry))) ⌝ }
+    ensures { λ r. ⌜ Says r (Writable (record { application = now (application .entry); volume = now (volume .entry); id = 0; owner = now (owner .entry); code = now (code .entry); date = now (date .entry) })) ⌝ }
 {
     if application.len() > 16 {
         return false;
@@ -88,15 +87,6 @@ fn format_number(
         return 7;
     }
     0
-}
-
-pub fn number_of(a: Amount) -> u32
-    ensures { λ r. ⌜ r ≡ sizeOf a ⌝ }
-{
-    match a {
-        Amount::Below => 0,
-        Amount::Is(n) => n,
-    }
 }
 
 pub fn format(

@@ -1,7 +1,7 @@
 // List: the first 64 bytes of the active files' parents, from an id up.
+use crate::active::is_active;
 use crate::answer::Answer;
-use crate::create::argument_number;
-use crate::search::is_active;
+use crate::argument::argument_number;
 use field::parts::copy;
 use tables::index::table;
 use tables::kinds::Index;
@@ -15,7 +15,7 @@ ghost use lib.ListN.{length, take};
 ghost use Rattle.field.specs.Parts.{over};
 ghost use Rattle.tables.specs.Places.{Layout};
 ghost use Rattle.tables.specs.Views.{viewOf};
-ghost use Rattle.requests.specs.Search.{passing};
+ghost use Rattle.requests.specs.Active.{passing};
 ghost use Rattle.requests.specs.Listing.{isListed, fronts, Listed};
 
 // Is table i an active parent from the given id up?

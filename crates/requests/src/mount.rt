@@ -1,34 +1,17 @@
 // Mount: the flag becomes 1.
-use field::numbers::put_u16;
-use tables::check::Checked;
-use tables::check::check;
-use tables::sector1::flag;
-ghost use mathlib.Core.Path.{_≡_};
-ghost use Prim.Native.Nat.{_≤_, _<_};
-ghost use lib.ListN.{length};
+use crate::judged::judge;
+use examination::check::Checked;
+use tables::sector1::put_flag;
 ghost use Rattle.tables.specs.Gates.{Gate};
-ghost use Rattle.requests.specs.Mount.{putFlag, mountTests, Mounted};
-
-// The books with f for the flag.
-pub fn put_flag(b: &mut [u8], f: u32)
-    requires { ⌜ (2048 ≤ length (now b)) × (f < 65536) ⌝ }
-    ensures { λ _. ⌜ now (b .exit) ≡ putFlag (now (b .entry)) f ⌝ }
-{
-    put_u16(b, 1054, f);
-}
+ghost use Rattle.requests.specs.Mount.{mountTests, Mounted};
 
 fn mount_number(b: &[u8]) -> u32
     ensures { λ r. ⌜ Gate (mountTests (now (b .entry))) r ⌝ }
 {
-    let found = check(b);
+    let found = judge(b, 1, 6);
     match found {
         Checked::Refused(n) => n,
-        Checked::Fine(_places) => {
-            if flag(b) == 1 {
-                return 6;
-            }
-            0
-        }
+        Checked::Fine(_places) => 0,
     }
 }
 

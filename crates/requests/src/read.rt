@@ -1,68 +1,23 @@
 // Read: a file's sectors, from a position on, to the caller's buffer.
 use crate::amount::Amount;
+use crate::amount::number_of;
 use crate::answer::Answer;
+use crate::argument::argument_number;
 use crate::body::body_number;
-use crate::create::argument_number;
-use crate::format::number_of;
+use crate::moving::end_of;
+use crate::moving::move_allowed;
+use crate::moving::whole_sectors;
 use files::sectors::read_sectors;
-use tables::index::byte_length;
-use tables::index::table;
 use tables::kinds::Index;
 use tables::places::Places;
 use tables::places::read_places;
 ghost use mathlib.Core.Path.{_≡_};
-ghost use Prim.Native.Nat.{_≤_, _<_};
-ghost use lib.ListN.{length};
-ghost use Rattle.field.specs.Says.{Says};
+ghost use Prim.Native.Nat.{_<_};
 ghost use Rattle.tables.specs.Gates.{Gate};
 ghost use Rattle.tables.specs.Books.{Good};
 ghost use Rattle.tables.specs.Views.{viewOf, Parent};
-ghost use Rattle.requests.specs.declared.amount.Amount.the-variants.{Is};
-ghost use Rattle.requests.specs.Read.{wholeSectors, endOf, MoveAllowed, readTests, readAmount, ReadOut};
-
-// Rounded down to whole sectors.
-pub fn whole_sectors(n: u32) -> u32
-    ensures { λ r. ⌜ (r ≡ wholeSectors n) × (r ≤ n) ⌝ }
-{
-    n / 1024 * 1024
-}
-
-// Are position and wanted length such that a buffer of `room` bytes is enough?
-fn sizes_allowed(at: u32, long: u32, room: usize) -> bool
-    ensures { λ r. ⌜ Says r (MoveAllowed (Is at) (Is long) room) ⌝ }
-{
-    if at > 2147483647 {
-        return false;
-    }
-    if at % 1024 != 0 {
-        return false;
-    }
-    if long > 2147483647 {
-        return false;
-    }
-    whole_sectors(long) as usize <= room
-}
-
-pub fn move_allowed(position: Amount, long: Amount, room: usize) -> bool
-    ensures { λ r. ⌜ Says r (MoveAllowed position long room) ⌝ }
-{
-    match position {
-        Amount::Below => false,
-        Amount::Is(at) => match long {
-            Amount::Below => false,
-            Amount::Is(n) => sizes_allowed(at, n, room),
-        },
-    }
-}
-
-// The end of file f: its byte length rounded up.
-pub fn end_of(b: &[u8], p: Places, f: Index) -> u32
-    requires { ⌜ Good (now b) p ⌝ }
-    requires { ⌜ Parent (viewOf p (now b)) (f .0) ⌝ }
-    ensures { λ r. ⌜ (r ≡ endOf (now (b .entry)) (f .0)) × (r ≤ 2147483648) ⌝ }
-{
-    1024 * ((byte_length(table(b, p, f)) + 1023) / 1024)
-}
+ghost use Rattle.requests.specs.Read.{readTests, readAmount, ReadOut};
+ghost use Rattle.requests.specs.Moving.{endOf};
 
 fn read_number(b: &[u8], body: &[u8], id: u32, position: Amount, long: Amount, room: usize) -> u32
     ensures { λ r. ⌜ Gate (readTests (now (b .entry)) (now (body .entry)) id position long room) r ⌝ }
@@ -76,7 +31,8 @@ fn read_number(b: &[u8], body: &[u8], id: u32, position: Amount, long: Amount, r
     if m != 0 {
         return m;
     }
-    if number_of(position) >= end_of(b, p, Index(id)) {
+    let f = Index(id);
+    if number_of(position) >= end_of(b, p, f) {
         return 14;
     }
     0

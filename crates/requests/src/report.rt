@@ -1,8 +1,8 @@
 // Report: the books in eleven lines of text, or the number that refuses them.
 use crate::text::put_line;
-use field::runs::count_bits;
-use tables::check::Checked;
-use tables::check::check;
+use crate::used::used_sectors;
+use examination::check::Checked;
+use examination::check::check;
 use tables::open::open_zones;
 use tables::places::Places;
 use tables::sector1;
@@ -11,7 +11,7 @@ ghost use Prim.Native.Nat.{_+_, _≤_};
 ghost use lib.ListN.{length};
 ghost use Rattle.tables.specs.Places.{Layout};
 ghost use Rattle.requests.specs.Text.{Put};
-ghost use Rattle.requests.specs.Report.{figuresOf, sizeLines, fileLines, stateLines, linesOf, refusedLine, Small, textOf, Reported};
+ghost use Rattle.requests.specs.Report.{figuresOf, sizeLines, fileLines, stateLines, linesOf, refusedLine, Small, Reported, asText};
 
 // What the report tells.
 pub struct Figures {
@@ -28,7 +28,7 @@ pub struct Figures {
     pub mounted: u32,
 }
 
-// A text by value: its first `length` bytes, nulls behind it.
+// A text by value: its first `length` bytes, then nulls.
 pub struct Text {
     pub bytes: [u8; 192],
     pub length: usize,
@@ -38,12 +38,10 @@ fn gather(b: &[u8], p: Places) -> Figures
     requires { ⌜ Layout p (length (now b)) ⌝ }
     ensures { λ r. ⌜ r ≡ figuresOf p (now (b .entry)) ⌝ }
 {
-    let zones = p.zones;
-    let sectors = 1024 * zones;
     Figures {
-        zones,
-        sectors,
-        used: count_bits(b, p.sectortable, 0, sectors as usize),
+        zones: p.zones,
+        sectors: 1024 * p.zones,
+        used: used_sectors(b, p),
         indexes: p.indexes,
         free: sector1::free_indexes(b),
         active: sector1::active_files(b),
@@ -95,7 +93,7 @@ fn write_all(s: &mut [u8], f: Figures) -> usize
 
 fn figures_text(f: Figures) -> Text
     requires { ⌜ Small f ⌝ }
-    ensures { λ r. ⌜ r ≡ textOf (linesOf f) ⌝ }
+    ensures { λ r. ⌜ r ≡ asText (linesOf f) ⌝ }
 {
     let mut bytes = [0u8; 192];
     let length = write_all(&mut bytes, f);
@@ -103,7 +101,7 @@ fn figures_text(f: Figures) -> Text
 }
 
 fn refused_text(n: u32) -> Text
-    ensures { λ r. ⌜ r ≡ textOf (refusedLine n) ⌝ }
+    ensures { λ r. ⌜ r ≡ asText (refusedLine n) ⌝ }
 {
     let mut bytes = [0u8; 192];
     let length = put_line(&mut bytes, 0, b"refused=", n);

@@ -1,9 +1,8 @@
 // Search: the ids of the active files whose names match a pattern.
+use crate::active::is_active;
 use crate::answer::Answer;
-use crate::create::argument_number;
-use names::pattern::name_matches;
-use tables::index::attribute;
-use tables::index::first_word;
+use crate::argument::argument_number;
+use patterns::pattern::name_matches;
 use tables::index::name;
 use tables::index::table;
 use tables::kinds::Index;
@@ -15,11 +14,12 @@ ghost use mathlib.Core.Bool.{cond};
 ghost use Prim.Native.Nat.{_+_, _≤_, _<_};
 ghost use lib.ListN.{length, set};
 ghost use Rattle.field.specs.Says.{Says};
-ghost use Rattle.names.specs.Pattern.{matches};
+ghost use Rattle.patterns.specs.Pattern.{matches};
 ghost use Rattle.tables.specs.Indexes.{nameOf};
 ghost use Rattle.tables.specs.Places.{Layout};
 ghost use Rattle.tables.specs.Views.{viewOf};
-ghost use Rattle.requests.specs.Search.{isActive, textOf, isMatch, passing, filledWith, PatternAllowed, Searched};
+ghost use Rattle.requests.specs.Search.{isMatch, filledWith, PatternAllowed, Searched, beforeNull};
+ghost use Rattle.requests.specs.Active.{passing};
 
 // Has the pattern 1 to 24 bytes, none of them null?
 fn pattern_allowed(pattern: &[u8]) -> bool
@@ -34,23 +34,10 @@ fn pattern_allowed(pattern: &[u8]) -> bool
     text_length(pattern) == pattern.len()
 }
 
-// Is table i an active file's parent?
-pub fn is_active(b: &[u8], p: Places, i: Index) -> bool
-    requires { ⌜ Layout p (length (now b)) ⌝ }
-    requires { ⌜ (1 ≤ i .0) × (i .0 ≤ p .indexes) ⌝ }
-    ensures { λ r. ⌜ r ≡ isActive (viewOf p (now (b .entry))) (i .0) ⌝ }
-{
-    let t = table(b, p, i);
-    if first_word(t) != i.0 {
-        return false;
-    }
-    attribute(t) % 2 == 0
-}
-
 // Does the pattern match the name in table t?
 fn text_matches(t: &[u8], pattern: &[u8]) -> bool
     requires { ⌜ length (now t) ≡ 128 ⌝ }
-    ensures { λ r. ⌜ r ≡ matches (now (pattern .entry)) (textOf (nameOf (now (t .entry)))) ⌝ }
+    ensures { λ r. ⌜ r ≡ matches (now (pattern .entry)) (beforeNull (nameOf (now (t .entry)))) ⌝ }
 {
     let field = name(t);
     let n = text_length(field);

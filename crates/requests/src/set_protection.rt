@@ -1,6 +1,5 @@
 // Set protection: weights 4 and 8 of an active file's attribute.
-use crate::create::argument_number;
-use crate::named::state_number;
+use crate::named::asked_number;
 use crate::state::protect;
 use tables::date::date_valid;
 use tables::kinds::Index;
@@ -25,11 +24,7 @@ fn protect_allowed(w: u32, date: &[u8]) -> bool
 fn protect_number(b: &[u8], id: u32, w: u32, date: &[u8]) -> u32
     ensures { λ r. ⌜ Gate (protectTests (now (b .entry)) id w (now (date .entry))) r ⌝ }
 {
-    let n = argument_number(b, protect_allowed(w, date));
-    if n != 0 {
-        return n;
-    }
-    state_number(b, read_places(b), id, 0)
+    asked_number(b, protect_allowed(w, date), id, 0)
 }
 
 pub fn set_protection(b: &mut [u8], id: u32, w: u32, date: &[u8]) -> u32
@@ -40,6 +35,7 @@ pub fn set_protection(b: &mut [u8], id: u32, w: u32, date: &[u8]) -> u32
         return n;
     }
     let p = read_places(b);
-    protect(b, p, Index(id), w, date);
+    let f = Index(id);
+    protect(b, p, f, w, date);
     0
 }

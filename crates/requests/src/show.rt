@@ -1,7 +1,7 @@
 // Show: a file's k-th sector as it lies in the caller's body.
 use crate::body::body_number;
-use crate::locate::kth_sector;
-use crate::space::use_number;
+use crate::judged::use_number;
+use crate::sector::kth_sector;
 use allocation::size::file_sectors;
 use files::sectors::body_place;
 use tables::kinds::Index;
@@ -29,7 +29,8 @@ pub fn show_number(b: &[u8], body: &[u8], id: u32, k: u32) -> u32
     if m != 0 {
         return m;
     }
-    if k as u64 >= file_sectors(b, p, Index(id)) {
+    let f = Index(id);
+    if k as u64 >= file_sectors(b, p, f) {
         return 14;
     }
     0
@@ -42,8 +43,9 @@ pub fn show_part(b: &[u8], body: &[u8], id: u32, k: u32) -> Part
     if show_number(b, body, id, k) != 0 {
         return Part { at: 0, len: 0 };
     }
+    let f = Index(id);
     Part {
-        at: body_place(kth_sector(b, read_places(b), Index(id), k)),
+        at: body_place(kth_sector(b, read_places(b), f, k)),
         len: 1024,
     }
 }

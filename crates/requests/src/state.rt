@@ -1,32 +1,29 @@
 // A file's attribute and sector 1's counts, written: what temporary delete, recover and set protection do.
-use field::numbers::put_u16;
-use field::numbers::put_u32;
-use field::parts::copy;
 use tables::index::attribute;
+use tables::index::put_attribute;
+use tables::index::put_changed;
 use tables::index::table;
 use tables::kinds::Index;
 use tables::places::Places;
 use tables::sector1;
 ghost use mathlib.Core.Path.{_≡_};
-ghost use Prim.Native.Nat.{_+_, _≤_, _<_};
+ghost use Prim.Native.Nat.{_≤_, _<_};
 ghost use lib.ListN.{length};
 ghost use Rattle.tables.specs.Books.{Good};
-ghost use Rattle.tables.specs.Indexes.{tableAt, attributeOf};
+ghost use Rattle.tables.specs.Indexes.{tableAt, attributeOf, deletedBit};
 ghost use Rattle.tables.specs.Places.{Layout};
-ghost use Rattle.tables.specs.Rules.R9.{deletedBit};
 ghost use Rattle.tables.specs.Views.{viewOf, Parent};
-ghost use Rattle.requests.specs.State.{putAttribute, putCounts, removed, recovered, protectionOf, protected};
+ghost use Rattle.requests.specs.State.{putState, putCounts, removed, recovered, protectionOf, protected};
 
 // The attribute of file f, its change date, and the latest update.
-pub fn put_attribute(b: &mut [u8], p: Places, f: Index, a: u32, date: &[u8])
+pub fn put_state(b: &mut [u8], p: Places, f: Index, a: u32, date: &[u8])
     requires { ⌜ Layout p (length (now b)) ⌝ }
     requires { ⌜ (1 ≤ f .0) × (f .0 ≤ p .indexes) × (a < 65536) × (length (now date) ≡ 6) ⌝ }
-    ensures { λ _. ⌜ now (b .exit) ≡ putAttribute p (now (b .entry)) (f .0) a (now (date .entry)) ⌝ }
+    ensures { λ _. ⌜ now (b .exit) ≡ putState p (now (b .entry)) (f .0) a (now (date .entry)) ⌝ }
 {
-    let at = p.indextable + 128 * (f.0 as usize - 1);
-    copy(b, at + 34, date);
-    put_u16(b, at + 44, a);
-    copy(b, 1044, date);
+    put_changed(b, p, f, date);
+    put_attribute(b, p, f, a);
+    sector1::put_latest(b, date);
 }
 
 // Sector 1's counts of files.
@@ -35,10 +32,10 @@ fn put_counts(b: &mut [u8], active: u32, deleted: u32, system: u32, directory: u
     requires { ⌜ (system < 65536) × (directory < 65536) ⌝ }
     ensures { λ _. ⌜ now (b .exit) ≡ putCounts (now (b .entry)) active deleted system directory ⌝ }
 {
-    put_u32(b, 1028, active);
-    put_u32(b, 1032, deleted);
-    put_u16(b, 1040, system);
-    put_u16(b, 1042, directory);
+    sector1::put_active(b, active);
+    sector1::put_deleted(b, deleted);
+    sector1::put_system(b, system);
+    sector1::put_directory(b, directory);
 }
 
 // The attribute with w for weights 4 and 8.
@@ -63,7 +60,7 @@ pub fn remove(b: &mut [u8], p: Places, f: Index, date: &[u8])
     let system = sector1::system_files(b) - a / 64 % 2;
     let directory = sector1::directory_files(b) - a / 32 % 2;
     put_counts(b, active, deleted, system, directory);
-    put_attribute(b, p, f, a + 1, date);
+    put_state(b, p, f, a + 1, date);
 }
 
 // File f recovered.
@@ -80,7 +77,7 @@ pub fn restore(b: &mut [u8], p: Places, f: Index, date: &[u8])
     let system = sector1::system_files(b) + a / 64 % 2;
     let directory = sector1::directory_files(b) + a / 32 % 2;
     put_counts(b, active, deleted, system, directory);
-    put_attribute(b, p, f, a - 1, date);
+    put_state(b, p, f, a - 1, date);
 }
 
 // File f with w for its protection.
@@ -91,5 +88,5 @@ pub fn protect(b: &mut [u8], p: Places, f: Index, w: u32, date: &[u8])
     ensures { λ _. ⌜ now (b .exit) ≡ protected p (now (b .entry)) (f .0) w (now (date .entry)) ⌝ }
 {
     let a = attribute(table(b, p, f));
-    put_attribute(b, p, f, protection_of(a, w), date);
+    put_state(b, p, f, protection_of(a, w), date);
 }

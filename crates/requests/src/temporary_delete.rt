@@ -1,5 +1,5 @@
 // Temporary delete: an active file is marked as deleted; its pointers and data stay.
-use crate::create::argument_number;
+use crate::argument::argument_number;
 use crate::named::usable_number;
 use crate::state::remove;
 use tables::date::date_valid;
@@ -26,6 +26,7 @@ pub fn temporary_delete(b: &mut [u8], id: u32, date: &[u8]) -> u32
         return n;
     }
     let p = read_places(b);
-    remove(b, p, Index(id), date);
+    let f = Index(id);
+    remove(b, p, f, date);
     0
 }

@@ -45,7 +45,7 @@ fn put_number(s: &mut [u8], at: usize, n: u32) -> usize
 }
 
 // Writes a name from `at` on; answers where it ends.
-fn put_name(s: &mut [u8], at: usize, name: &[u8]) -> usize
+fn put_text(s: &mut [u8], at: usize, name: &[u8]) -> usize
     requires { ⌜ at + length (now name) ≤ length (now s) ⌝ }
     ensures { λ r. ⌜ Put (now (s .entry)) at (now (name .entry)) (now (s .exit)) r ⌝ }
 {
@@ -58,7 +58,7 @@ pub fn put_line(s: &mut [u8], at: usize, name: &[u8], n: u32) -> usize
     requires { ⌜ at + length (lineOf (now name) n) ≤ length (now s) ⌝ }
     ensures { λ r. ⌜ Put (now (s .entry)) at (lineOf (now (name .entry)) n) (now (s .exit)) r ⌝ }
 {
-    let a = put_name(s, at, name);
+    let a = put_text(s, at, name);
     let e = put_number(s, a, n);
-    put_name(s, e, b"\n")
+    put_text(s, e, b"\n")
 }

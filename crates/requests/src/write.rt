@@ -1,15 +1,16 @@
 // Write: the caller's bytes to a file's sectors, from a position on; a variable file first grows.
 use crate::amount::Amount;
+use crate::amount::number_of;
 use crate::answer::Answer;
+use crate::argument::argument_number;
 use crate::body::body_number;
-use crate::create::argument_number;
-use crate::format::number_of;
-use crate::grow::lack_number;
-use crate::grow::lengthen;
-use crate::read::end_of;
-use crate::read::move_allowed;
-use crate::read::whole_sectors;
-use crate::state::put_attribute;
+use crate::longer::lack_number;
+use crate::longer::lengthen;
+use crate::moving::end_of;
+use crate::moving::move_allowed;
+use crate::moving::whole_sectors;
+use crate::state::put_state;
+use crate::variable::variable_size;
 use files::sectors::write_sectors;
 use tables::date::date_valid;
 use tables::index::attribute;
@@ -47,7 +48,7 @@ fn within(b: &[u8], p: Places, f: Index, at: u32, n: u32) -> bool
     if at > end {
         return false;
     }
-    if attribute(table(b, p, f)) / 16 % 2 != 0 {
+    if variable_size(b, p, f) {
         return true;
     }
     at + n <= end
@@ -63,7 +64,7 @@ fn asked_length(b: &[u8], p: Places, f: Index, at: u32, n: u32) -> u32
     if n == 0 {
         return 0;
     }
-    if attribute(table(b, p, f)) / 16 % 2 != 1 {
+    if !variable_size(b, p, f) {
         return 0;
     }
     at + n
@@ -120,7 +121,7 @@ fn settle(b: &mut [u8], f: Index, date: &[u8])
 {
     let p = read_places(b);
     let a = attribute(table(b, p, f));
-    put_attribute(b, p, f, a - a / 2 % 2 * 2, date);
+    put_state(b, p, f, a - a / 2 % 2 * 2, date);
 }
 
 // The books once n bytes, some at least, are written at this position.

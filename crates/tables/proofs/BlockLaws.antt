@@ -1,11 +1,13 @@
--- Blocks: the six sizes once, and what follows for any size that makes up a zone. Assumes nothing.
+-- Blocks: the six sizes once, and what follows for any size that makes up a zone.
 use mathlib.Core.Path.{_≡_, refl, sym, ap, _∙_, subst}
 use Prim.Native.Nat.{ℕ, zero, suc, _+_, _-_, _*_, _/_, _%_, _^_, _≤_, _<_}
-use native.Mathlib.Nat.{mul-le-mul-right, add-mul, one-mul}
+use native.Mathlib.Nat.{mul-le-mul-right, add-mul, add-assoc, zero-mul, one-mul, suc-mul}
 use native.Mathlib.Decide.{ℕ-discrete}
 use native.Mathlib.Omega.{arith}
-use lib.Dec.{T, ltb, lit<}
-use Rattle.tables.specs.Blocks.{Typed, blockOf, Block}
+use lib.Dec.{T, ltb, lit<, lit≤}
+use Rattle.field.specs.Sum.{sumTo}
+use Rattle.field.proofs.Sums.{sum-zero, sum-one, sum-cut}
+use Rattle.tables.specs.Blocks.{Typed, blockOf, Block, Whole}
 
 -- what holds of the types C to H holds of every type 3-8
 pub six : (P : ℕ → Type 0) → P 3 → P 4 → P 5 → P 6 → P 7 → P 8 → (t : ℕ) → Typed t → P t
@@ -35,6 +37,10 @@ block-of = six (λ t. Block (blockOf t)) (one tt refl) (one tt refl) (one tt ref
     one : {size : ℕ} → T (ltb 0 size) → 1024 / size * size ≡ 1024 → Block size
     one l e = record { some = lit< l; whole = e }
 
+pub block-few : (t : ℕ) → Typed t → blockOf t ≤ 1024
+unfolding blockOf
+block-few = six (λ t. blockOf t ≤ 1024) (lit≤ tt) (lit≤ tt) (lit≤ tt) (lit≤ tt) (lit≤ tt) (lit≤ tt)
+
 -- a block of so many ends before the next begins
 pub block-end : (i count size : ℕ) → i < count → i * size + size ≤ count * size
 block-end i count size lt = omega (arith, mul-le-mul-right {m = i + 1} {n = count} size (omega arith), add-mul i 1 size, one-mul size)
@@ -49,3 +55,24 @@ unfolding blockOf
 size-shift t typed =
     let e : (1 * 2 ^ (2 * (t - 3))) % 2 ^ 32 ≡ blockOf t = six (λ t. (1 * 2 ^ (2 * (t - 3))) % 2 ^ 32 ≡ blockOf t) refl refl refl refl refl refl t typed in
     (e, subst Block (sym e) (block-of t typed))
+
+-- ---- clear blocks counted by the bits that are set
+
+-- a block of one bit throughout is all set or all clear
+block-sum : (size v : ℕ) (f : ℕ → ℕ) → v < 2 → ((k : ℕ) → k < size → f k ≡ v) → sumTo size f + (1 - v) * size ≡ size
+block-sum size zero f l h = omega (arith, sum-zero size f h, one-mul size)
+block-sum size (suc zero) f l h = omega (arith, sum-one size f h, zero-mul size)
+block-sum size (suc (suc v)) f l h = absurd (omega arith)
+
+module _ (f : ℕ → ℕ) (from size : ℕ) (bit : (n : ℕ) → f n < 2) where
+  blocks-sum : (m : ℕ) → ((k : ℕ) → k < m → (j : ℕ) → j < size → f (from + k * size + j) ≡ f (from + k * size))
+      → sumTo (m * size) (λ k. f (from + k)) + sumTo m (λ k. 1 - f (from + k * size)) * size ≡ m * size
+  unfolding sumTo
+  blocks-sum zero h = rw zero-mul (omega (arith, zero-mul size))
+  blocks-sum (suc m) h =
+      let one = block-sum size (f (from + m * size)) (λ j. f (from + (m * size + j))) (bit _) (λ j l. ap f (sym (add-assoc from (m * size) j)) ∙ h m (omega arith) j l) in
+      let cut = sum-cut (m * size) size (λ k. f (from + k)) in
+      rw suc-mul (omega (arith, blocks-sum m (λ k l. h k (omega arith)), one, cut, add-mul (sumTo m (λ k. 1 - f (from + k * size))) (1 - f (from + m * size)) size))
+
+  pub clear-blocks : Block size → Whole f from size → sumTo 1024 (λ k. f (from + k)) + sumTo (1024 / size) (λ k. 1 - f (from + k * size)) * size ≡ 1024
+  clear-blocks b w = rw (b .whole) at (blocks-sum (1024 / size) w)

@@ -1,12 +1,12 @@
--- Chains: a walk that ends meets nothing twice, and so the paper's "once" follows from the rules. Assumes nothing.
+-- Chains: a walk that ends meets nothing twice, and so the paper's "once" follows from the rules.
 use mathlib.Core.Path.{_≡_, refl, sym, ap, _∙_}
 use Prim.Native.Nat.{ℕ, zero, suc, _+_, _-_, _≤_, _<_}
 use native.Mathlib.Decide.{decLt}
 use native.Mathlib.Omega.{arith}
 use Rattle.tables.specs.Indexes.{parentOf}
-use Rattle.tables.specs.Views.{View, Free, Parent, Child, walk, next}
-use Rattle.tables.specs.Rules.R4.{FreeChain, R4}
-use Rattle.tables.specs.Rules.R5.{FileChain, Stands, R5}
+use Rattle.tables.specs.Views.{View, Parent, walk, next}
+use Rattle.tables.specs.Rules.R4.{R4}
+use Rattle.tables.specs.Rules.R5.{FileChain, R5}
 
 -- ---- walks
 
@@ -57,9 +57,6 @@ module _ (v : View) (r : R5 v) where
   abbrev pub member : ℕ → ℕ → ℕ
   member p k = walk (next v) p (suc k)
 
-  pub child-stands : (c : ℕ) → Child v c → (p : ℕ) × (k : ℕ) × Parent v p × (k < r .long p) × (member p k ≡ c)
-  child-stands c h = let s = r .stands c h in (parentOf (v .table c), s .place, s .parent, s .below, s .here)
-
   pub child-once : (p q j k : ℕ) → Parent v p → Parent v q → j < r .long p → k < r .long q → member p j ≡ member q k → (p ≡ q) × (j ≡ k)
   child-once p q j k hp hq lj lk e =
       let named : p ≡ q = sym (r .chain p hp .names j lj) ∙ ap (λ (c : ℕ). parentOf (v .table c)) e ∙ r .chain q hq .names k lk in
@@ -75,3 +72,11 @@ module _ (v : View) (r : R5 v) where
       place p j k hp lj lk e =
           let same : suc j ≡ suc k = walk-place (next v) p (suc (r .long p)) (r .chain p hp .ends) (λ n l. some p hp n l) (suc k) (omega arith) (suc j) (omega arith) e in
           omega arith
+
+-- a chain has one length
+module _ (v : View) (p : ℕ) where
+  shorter : (m n : ℕ) → FileChain v p m → FileChain v p n → m < n → ⊥
+  shorter m n a b l = omega (arith, a .ends, b .each m l .low)
+
+  pub chain-one : (m n : ℕ) → FileChain v p m → FileChain v p n → m ≡ n
+  chain-one m n a b = elim (decLt m n) [ yes l ↦ absurd (shorter m n a b l) | no h ↦ elim (decLt n m) [ yes l ↦ absurd (shorter n m b a l) | no g ↦ omega arith ] ]

@@ -1,5 +1,5 @@
 -- Which blocks can be had, for any number of types and zones: zones that are open are handed out type by type, and of the free blocks
--- of each type the first are taken. Types are t + 3 for t below n, as the volume's are; zones are counted from 0. Assumes nothing.
+-- of each type the first are taken. Types are t + 3 for t below n, as the volume's are; zones are counted from 0.
 use mathlib.Core.Path.{_≡_, refl, ap, _∙_}
 use mathlib.Core.Bool.{Bool, true, false, cond, _&&_, _||_}
 use Prim.Native.Nat.{ℕ, zero, suc, _+_, _-_, _*_, _/_, _≤_, _<_, min}

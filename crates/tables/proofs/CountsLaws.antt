@@ -1,10 +1,10 @@
 -- Counts per zone type: one step of them, the loop over the six types, and what the counts are good for: they supply the file's bytes, with
--- less than one block of the last chosen type to spare, and take no block of a type that is not chosen. Assumes nothing.
+-- less than one block of the last chosen type to spare, and take no block of a type that is not chosen.
 use mathlib.Core.Path.{_≡_, refl, sym, _∙_, ap}
 use mathlib.Core.Bool.{Bool, true, false, cond}
 use mathlib.Core.List.{List, [], _++_, append-nil}
 use Prim.Native.Nat.{ℕ, zero, suc, _+_, _-_, _*_, _/_, _%_, _^_, _≤_, _<_}
-use native.Mathlib.Nat.{le-refl, mod-le, mod-lt, div-add-mod', div-le-self, zero-mul, one-mul, add-mul, mul-le-mul-left, mul-one, div-lt-iff-lt-mul, one-le-pow, mod-eq-of-lt}
+use native.Mathlib.Nat.{le-refl, mod-le, mod-lt, div-add-mod', div-le-self, zero-mul, one-mul, add-mul, mul-le-mul-left, mul-one, div-lt-iff-lt-mul, one-le-pow}
 use native.Mathlib.Numerals.{add-one}
 use native.Mathlib.Decide.{ℕ-discrete}
 use native.Mathlib.Omega.{arith}
@@ -17,12 +17,14 @@ use lib.Signed.{ltZ, nonNeg}
 use mir.Val.{toZ, ofZ, SFits, Fits}
 use mir.ValLaws.{toZ-ofZ}
 use mir.Syntax.{w32}
-use borrow.Author.Tests.{eq-eqb, ne-eqb, le-leb, lt-leb, ltb-true, leb-true, eqb-true, eqb-false}
+use borrow.Author.Tests.{eq-eqb, ne-eqb, le-leb, lt-leb, ltb-true, eqb-true, eqb-false}
 use Rattle.tables.specs.declared.counts.Chosen.{Chosen}
 use Rattle.tables.specs.declared.counts.Chosen.the-variants.{Types, Bad}
 use Rattle.tables.specs.Blocks.{Typed, blockOf, Block}
-use Rattle.tables.specs.Counts.{typesOf, chosenTypes, weightOf, blockBytes, isChosen, noneBelow, roundUp, countAt, restAt, countsDown, countsOf, suppliedBy, Countable, Shared}
-use Rattle.tables.proofs.BlockLaws.{six}
+use Rattle.tables.specs.Rules.R1.{ceil}
+use Rattle.tables.specs.Counts.{typesOf, chosenTypes, weightOf, blockBytes, isChosen, noneBelow, shareCount, shareRest, countsDown, countsOf, suppliedBy, Countable, Shared}
+use Rattle.tables.proofs.BlockLaws.{six, block-few}
+use Rattle.field.proofs.Tests.{no-true}
 
 -- ---- a branch by a test, on each way on from it
 
@@ -43,12 +45,8 @@ pub ruleset conds = (eq-yes, eq-no, le-yes, le-no)
 
 -- ---- the bytes of a block, by its sectors
 
-sectors-le : (t : ℕ) → Typed t → blockOf t ≤ 1024
-unfolding blockOf
-sectors-le = six (λ t. blockOf t ≤ 1024) (lit≤ tt) (lit≤ tt) (lit≤ tt) (lit≤ tt) (lit≤ tt) (lit≤ tt)
-
 pub bytes-high : (t s : ℕ) → Typed t → s ≡ blockOf t → 1024 * s ≤ 1048576
-bytes-high t s typed e = omega (arith, sectors-le t typed)
+bytes-high t s typed e = omega (arith, block-few t typed)
 
 pub bytes-at : (t s : ℕ) → Typed t → (s ≡ blockOf t) × Block s → (1024 * s ≡ blockBytes t) × (0 < 1024 * s) × (1024 * s ≤ 1048576)
 unfolding blockBytes
@@ -58,7 +56,7 @@ bytes-at t s typed h = (ap (λ (n : ℕ). 1024 * n) (h .0), omega (arith, h .1 .
 
 module _ (flag t rest w : ℕ) (ew : w ≡ weightOf t) where
   pub shared-none : (flag / w % 2 ≡ 1 → ⊥) → Shared flag t rest 0 rest
-  unfolding countAt restAt isChosen
+  unfolding shareCount shareRest isChosen
   shared-none h =
       let f : eqb (flag / weightOf t % 2) 1 ≡ false = ne-eqb _ _ (rw ew at h) in
       record { counted = rw f; passed = rw f }
@@ -68,36 +66,33 @@ module _ (flag t rest w : ℕ) (ew : w ≡ weightOf t) where
     chosen = eq-eqb _ _ (rw ew at h)
 
     pub shared-part : (flag % w ≡ 0 → ⊥) → Shared flag t rest (rest / b) (rest % b)
-    unfolding countAt restAt isChosen noneBelow
+    unfolding shareCount shareRest isChosen noneBelow
     shared-part n =
         let f : eqb (flag % weightOf t) 0 ≡ false = ne-eqb _ _ (rw ew at n) in
         record { counted = rw (chosen, f, eb); passed = rw (chosen, eb) }
 
     pub shared-last : flag % w ≡ 0 → Shared flag t rest ((rest + (b - 1)) / b) (rest % b)
-    unfolding countAt restAt isChosen noneBelow roundUp
+    unfolding shareCount shareRest isChosen noneBelow
     shared-last n =
         let f : eqb (flag % weightOf t) 0 ≡ true = eq-eqb _ _ (rw ew at n) in
         record { counted = rw (chosen, f, eb); passed = rw (chosen, eb) }
 
 -- what holds on each of the three ways holds of a step's count and of what it passes on
 step : (flag t rest : ℕ) (P : ℕ → ℕ → Type 0) → (isChosen flag t ≡ false → P 0 rest)
-    → (isChosen flag t ≡ true → noneBelow flag t ≡ true → P (roundUp rest (blockBytes t)) (rest % blockBytes t))
+    → (isChosen flag t ≡ true → noneBelow flag t ≡ true → P (ceil rest (blockBytes t)) (rest % blockBytes t))
     → (isChosen flag t ≡ true → noneBelow flag t ≡ false → P (rest / blockBytes t) (rest % blockBytes t))
-    → P (countAt flag t rest) (restAt flag t rest)
-unfolding countAt restAt
+    → P (shareCount flag t rest) (shareRest flag t rest)
+unfolding shareCount shareRest
 step flag t rest P none last part = go (isChosen flag t) (noneBelow flag t) none last part
   where
-    go : (x y : Bool) → (x ≡ false → P 0 rest) → (x ≡ true → y ≡ true → P (roundUp rest (blockBytes t)) (rest % blockBytes t))
+    go : (x y : Bool) → (x ≡ false → P 0 rest) → (x ≡ true → y ≡ true → P (ceil rest (blockBytes t)) (rest % blockBytes t))
         → (x ≡ true → y ≡ false → P (rest / blockBytes t) (rest % blockBytes t))
-        → P (cond x (cond y (roundUp rest (blockBytes t)) (rest / blockBytes t)) 0) (cond x (rest % blockBytes t) rest)
+        → P (cond x (cond y (ceil rest (blockBytes t)) (rest / blockBytes t)) 0) (cond x (rest % blockBytes t) rest)
     go true true n l p = l refl refl
     go true false n l p = p refl refl
     go false y n l p = n refl
 
 -- ---- the flag byte, as the code meets it
-
-no-true : {A : Type 0} → true ≡ false → A
-no-true e = let z : _≡_ {A = ℕ} 0 1 = cc in absurd (omega arith)
 
 module _ (z : ℤ) (fits : SFits w32 z) where
   pub flag-default : ofZ w32 z ≡ 4294967295 → Types 252 ≡ chosenTypes z
@@ -158,24 +153,22 @@ bytes-some t = omega (arith, one-le-pow (t - 3) 4 (lit≤ tt))
 
 module _ (n b : ℕ) (some : 0 < b) where
   -- rounding up gives enough, with less than a block to spare
-  rounded : (n ≤ roundUp n b * b) × (roundUp n b * b < n + b)
-  unfolding roundUp
+  rounded : (n ≤ ceil n b * b) × (ceil n b * b < n + b)
   rounded = let e = div-add-mod' (n + (b - 1)) b in let l = mod-lt (n + (b - 1)) some in (omega arith, omega arith)
 
-  rounded-le : roundUp n b ≤ n
-  unfolding roundUp
+  rounded-le : ceil n b ≤ n
   rounded-le =
       let l : (n + (b - 1)) / b < n + 1 = div-lt-iff-lt-mul some .1 (omega (arith, mul-le-mul-left {m = 1} {n = b} n some, mul-one n, add-mul n 1 b, one-mul b)) in
       omega arith
 
-pub rest-le : (flag t rest : ℕ) → restAt flag t rest ≤ rest
+pub rest-le : (flag t rest : ℕ) → shareRest flag t rest ≤ rest
 rest-le flag t rest = step flag t rest (λ c r. r ≤ rest) (λ x. le-refl rest) (λ x y. mod-le rest _) (λ x y. mod-le rest _)
 
-count-le : (flag t rest : ℕ) → countAt flag t rest ≤ rest
+count-le : (flag t rest : ℕ) → shareCount flag t rest ≤ rest
 count-le flag t rest = step flag t rest (λ c r. c ≤ rest) (λ x. omega arith) (λ x y. rounded-le rest _ (bytes-some t)) (λ x y. div-le-self rest _)
 
-count-none : (flag t rest : ℕ) → isChosen flag t ≡ false → countAt flag t rest ≡ 0
-unfolding countAt
+count-none : (flag t rest : ℕ) → isChosen flag t ≡ false → shareCount flag t rest ≡ 0
+unfolding shareCount
 count-none flag t rest h = rw h
 
 -- ---- which types are chosen, from the largest down
@@ -231,11 +224,11 @@ none-chosen flag (suc k) h t lo hi = let d = none-down flag k h in elim (ℕ-dis
 length-down : (flag rest k : ℕ) → length (countsDown flag rest k) ≡ k
 unfolding countsDown
 length-down flag rest zero = refl
-length-down flag rest (suc k) = ap suc (length-down flag (restAt flag (k + 3) rest) k)
+length-down flag rest (suc k) = ap suc (length-down flag (shareRest flag (k + 3) rest) k)
 
-supplied-more : (flag rest k : ℕ) → suppliedBy (countsDown flag rest (suc k)) ≡ countAt flag (k + 3) rest * blockBytes (k + 3) + suppliedBy (countsDown flag (restAt flag (k + 3) rest) k)
+supplied-more : (flag rest k : ℕ) → suppliedBy (countsDown flag rest (suc k)) ≡ shareCount flag (k + 3) rest * blockBytes (k + 3) + suppliedBy (countsDown flag (shareRest flag (k + 3) rest) k)
 unfolding countsDown suppliedBy
-supplied-more flag rest k = rw (length-down flag (restAt flag (k + 3) rest) k)
+supplied-more flag rest k = rw (length-down flag (shareRest flag (k + 3) rest) k)
 
 enough : (flag : ℕ) → flag % weightOf 3 ≡ 0 → (k rest : ℕ) → (flag % weightOf (k + 3) ≡ 0 → ⊥) → rest ≤ suppliedBy (countsDown flag rest k)
 enough flag f zero rest h = absurd (h f)
@@ -252,8 +245,8 @@ unfolding countsDown suppliedBy
 supplied-none flag zero rest h = refl
 supplied-none flag (suc k) rest h =
     supplied-more flag rest k
-    ∙ ap (λ (x : ℕ). x * blockBytes (k + 3) + suppliedBy (countsDown flag (restAt flag (k + 3) rest) k)) (count-none flag (k + 3) rest (h (k + 3) (omega arith) (omega arith)))
-    ∙ omega (arith, zero-mul (blockBytes (k + 3)), supplied-none flag k (restAt flag (k + 3) rest) (λ t lo hi. h t lo (omega arith)))
+    ∙ ap (λ (x : ℕ). x * blockBytes (k + 3) + suppliedBy (countsDown flag (shareRest flag (k + 3) rest) k)) (count-none flag (k + 3) rest (h (k + 3) (omega arith) (omega arith)))
+    ∙ omega (arith, zero-mul (blockBytes (k + 3)), supplied-none flag k (shareRest flag (k + 3) rest) (λ t lo hi. h t lo (omega arith)))
 
 -- "the last chosen type"
 pub record Last (flag t : ℕ) : Type 0 where
@@ -277,7 +270,7 @@ last-down flag f (suc k) l h = elim (ℕ-discrete (flag % weightOf (k + 3)) 0) [
 module _ (flag t : ℕ) (last : Last flag t) (k rest : ℕ) where
   fewest-at : t ≡ k + 3 → suppliedBy (countsDown flag rest (suc k)) < rest + blockBytes t
   fewest-at e =
-      rw (supplied-more flag rest k, supplied-none flag k (restAt flag (k + 3) rest) (λ u lo hi. last .least u lo (omega arith)), e)
+      rw (supplied-more flag rest k, supplied-none flag k (shareRest flag (k + 3) rest) (λ u lo hi. last .least u lo (omega arith)), e)
       (step flag (k + 3) rest (λ c r. c * blockBytes (k + 3) + 0 < rest + blockBytes (k + 3))
       (λ n. omega (arith, zero-mul (blockBytes (k + 3)), bytes-some (k + 3)))
       (λ x l. omega (arith, rounded rest (blockBytes (k + 3)) (bytes-some (k + 3)) .1))
@@ -298,18 +291,12 @@ fewest flag t last (suc k) rest h = elim (ℕ-discrete t (k + 3)) [
   | no n ↦ (let l : t < k + 3 = omega arith in fewest-above flag t last k rest l (λ r. fewest flag t last k r l))
 ]
 
-small : (flag k rest i : ℕ) → getD (countsDown flag rest k) i 0 ≤ rest
-unfolding countsDown
-small flag zero rest i = omega arith
-small flag (suc k) rest zero = count-le flag (k + 3) rest
-small flag (suc k) rest (suc i) = omega (arith, small flag k (restAt flag (k + 3) rest) i, rest-le flag (k + 3) rest)
-
 none-at : (flag k rest t : ℕ) → 3 ≤ t → t < k + 3 → isChosen flag t ≡ false → getD (countsDown flag rest k) (k + 2 - t) 0 ≡ 0
 unfolding countsDown
 none-at flag zero rest t lo hi h = absurd (omega arith)
 none-at flag (suc k) rest t lo hi h = elim (ℕ-discrete t (k + 3)) [
   | yes e ↦ (let z : suc k + 2 - t ≡ 0 = omega arith in rw z (count-none flag (k + 3) rest (rw e at h)))
-  | no n ↦ (let z : suc k + 2 - t ≡ suc (k + 2 - t) = omega arith in rw z (none-at flag k (restAt flag (k + 3) rest) t lo (omega arith) h))
+  | no n ↦ (let z : suc k + 2 - t ≡ suc (k + 2 - t) = omega arith in rw z (none-at flag k (shareRest flag (k + 3) rest) t lo (omega arith) h))
 ]
 
 -- ---- of the six counts, H first
@@ -334,62 +321,7 @@ module _ (flag size : ℕ) where
   unfolding countsOf
   counts-fewest t last = fewest flag t last 6 size (omega (arith, last .high))
 
-  -- each is at most the file's bytes
-  pub counts-small : (i : ℕ) → getD (countsOf flag size) i 0 ≤ size
-  unfolding countsOf
-  counts-small i = small flag 6 size i
-
   -- none is of a type that is not chosen
   pub counts-none : (t : ℕ) → Typed t → isChosen flag t ≡ false → getD (countsOf flag size) (8 - t) 0 ≡ 0
   unfolding countsOf
   counts-none t typed h = none-at flag 6 size t (typed .low) (omega (arith, typed .high)) h
-
--- ---- the flag byte in the paper's words
-
--- a sum of some of the six weights
-abbrev Sum : ℕ → Type 0
-Sum n = (n % 4 ≡ 0) × (4 ≤ n) × (n ≤ 252)
-
-no-bad : {A : Type 0} (flag : ℕ) → Bad ≡ Types flag → A
-no-bad flag h = let z : _≡_ {A = ℕ} 0 1 = cc in absurd (omega arith)
-
-all-six : (flag : ℕ) → Types 252 ≡ Types flag → Sum flag
-all-six flag h = let e : 252 ≡ flag = cc in (omega arith, omega arith, omega arith)
-
-types-sum : (n flag : ℕ) → typesOf n ≡ Types flag → Sum flag
-unfolding typesOf
-types-sum n flag = go (eqb n 0) (eqb (n % 4) 0) (leb n 252) refl refl refl
-  where
-    go : (x y w : Bool) → eqb n 0 ≡ x → eqb (n % 4) 0 ≡ y → leb n 252 ≡ w → cond x (Types 252) (cond y (cond w (Types n) Bad) Bad) ≡ Types flag → Sum flag
-    go true y w p q l h = all-six flag h
-    go false true true p q l h =
-        let e : n ≡ flag = cc in
-        let f = eqb-false n 0 p in
-        let g = eqb-true (n % 4) 0 q in
-        let k = leb-true n 252 l in
-        let some : 0 < n = elim (ℕ-discrete n 0) [ yes z ↦ absurd (f z) | no z ↦ omega arith ] in
-        let m : Sum n = (g, omega arith, k) in rw e at m
-    go false true false p q l h = no-bad flag h
-    go false false w p q l h = no-bad flag h
-
--- a flag byte that is allowed has counts
-pub types-countable : (z : ℤ) (flag size : ℕ) → chosenTypes z ≡ Types flag → 1 ≤ size → size ≤ 2147483647 → Countable flag size
-unfolding chosenTypes
-types-countable z flag size h lo hi = let s = go z h in record { weights = s .0; some = s .1; six = s .2; low = lo; high = hi }
-  where
-    below : (n : ℕ) (x : Bool) → cond x (Types 252) Bad ≡ Types flag → Sum flag
-    below n true e = all-six flag e
-    below n false e = no-bad flag e
-
-    go : (z : ℤ) → chosenTypes z ≡ Types flag → Sum flag
-    go (pos n) e = types-sum n flag e
-    go (negsuc n) e = below n (eqb n 0) e
-
--- a multiple of 4 up to 252 is the sum of the weights of the types that it chooses
-linear : (f a b c d e g p q r s t u : ℕ) → f ≡ a + p → p ≡ b + q → q ≡ c + r → r ≡ d + s → s ≡ e + t → t ≡ g + u → u ≡ 0 → a + b + c + d + e + g ≡ f
-linear f a b c d e g p q r s t u h₁ h₂ h₃ h₄ h₅ h₆ h₇ = omega arith
-
-pub sum-is : (flag : ℕ) → flag % 4 ≡ 0 → flag ≤ 252 → flag / 128 % 2 * 128 + flag / 64 % 2 * 64 + flag / 32 % 2 * 32 + flag / 16 % 2 * 16 + flag / 8 % 2 * 8 + flag / 4 % 2 * 4 ≡ flag
-unfolding weightOf
-sum-is flag h l =
-    linear flag _ _ _ _ _ _ _ _ _ _ _ _ (sym (mod-eq-of-lt {m = 256} (omega arith)) ∙ split flag 5) (split flag 4) (split flag 3) (split flag 2) (split flag 1) (split flag 0) h

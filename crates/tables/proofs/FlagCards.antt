@@ -1,4 +1,4 @@
--- The types that flag bytes choose, by computation. Assumes nothing.
+-- The types that flag bytes choose, by computation.
 use mathlib.Core.Path.{_≡_, refl}
 use lib.IntN.{pos, negsuc}
 use Rattle.tables.specs.declared.counts.Chosen.the-variants.{Types, Bad}

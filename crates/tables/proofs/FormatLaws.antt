@@ -1,4 +1,4 @@
--- Formatted books have the mark, the sizes and the places that were asked for, and break no rule. Assumes nothing.
+-- Formatted books have the mark, the sizes and the places that were asked for, and break no rule.
 use mathlib.Core.Path.{_≡_, refl, ap, _∙_}
 use mathlib.Core.Logic.{_⊎_, inl, inr, ⊎-elim}
 use Prim.Native.Nat.{ℕ, _+_, _-_, _*_, _/_, _≤_, _<_}
@@ -23,7 +23,7 @@ use Rattle.tables.specs.Books.{Marked, Placed}
 use Rattle.tables.specs.Lawful.{Lawful}
 use Rattle.tables.specs.Rules.R1.{Tails}
 use Rattle.tables.specs.Rules.R2.{Reads}
-use Rattle.tables.specs.Format.{Label, Formattable, Writable, freshPlaces, putLabel, putSizes, putStarts, putStatus, putSystem, putLinks, formatted}
+use Rattle.tables.specs.Format.{Label, Formattable, Writable, freshPlaces, putLabel, putSizes, putStarts, putStatus, putSystemZones, putLinks, formatted}
 use Rattle.tables.proofs.PlaceLaws.{zone-room, sector-room, index-room}
 use Rattle.tables.proofs.ZoneEntryLaws.{zone-kept, zone-zeros}
 use Rattle.tables.proofs.FreshLaws.{Fresh, fresh-R2, fresh-R3, fresh-R4, fresh-R5, fresh-R6, fresh-R7, fresh-R8, fresh-R9}
@@ -63,7 +63,7 @@ module _ (len z n : ℕ) (l : Label) (long : 5120 ≤ len) (f : Formattable len 
   counted = putStatus started n (l .date)
 
   zoned : List ℕ
-  zoned = putSystem p counted
+  zoned = putSystemZones p counted
 
   chained : List ℕ
   chained = putLinks p zoned (n - 1)

@@ -1,4 +1,4 @@
--- What each part of format reads afterwards, and which bytes it leaves. Assumes nothing.
+-- What each part of format reads afterwards, and which bytes it leaves.
 use mathlib.Core.Path.{_≡_, refl, _∙_}
 use mathlib.Core.Logic.{_⊎_, inl, inr, ⊎-elim}
 use Prim.Native.Nat.{ℕ, zero, suc, _+_, _-_, _*_, _/_, _%_, _≤_, _<_}
@@ -17,14 +17,10 @@ use Rattle.field.proofs.RunLaws.{full-bit}
 use Rattle.tables.specs.declared.places.Places.{Places}
 use Rattle.tables.specs.Zones.{zoneAt, putZone}
 use Rattle.tables.specs.Rules.R1.{ceil}
-use Rattle.tables.specs.Format.{Label, Writable, putNames, putOwner, putLabel, putMark, putSizes, putStarts, putStatus, putSystem, putLinks}
+use Rattle.tables.specs.Format.{Label, Writable, putTitles, putOwned, putLabel, putIdentity, putSizes, putStarts, putStatus, putSystemZones, putLinks}
 use Rattle.tables.proofs.ZoneEntryLaws.{zone-kept, kept-putZone, zone-put}
 
 -- ---- general
-
--- a byte outside a frame
-pub byte-kept : {b b' : List ℕ} {o n : ℕ} (j : ℕ) → Kept b b' o n → Apart j 1 o n → getD b' j 0 ≡ getD b j 0
-byte-kept j k a = k .out j a
 
 -- texts of at most n bytes change at most n bytes
 pub kept-text : (b : List ℕ) (a : ℕ) (t : List ℕ) (n : ℕ) → length t ≤ n → a + n ≤ length b → Kept b (over b a t) a n
@@ -48,7 +44,7 @@ bit-byte b base n v l e = rw e (full-bit v (7 - n % 8) l (omega arith))
 -- ---- sector 0
 
 pub kept-label : (b : List ℕ) (l : Label) → 2048 ≤ length b → Writable l → Kept b (putLabel b l) 8 122
-unfolding putLabel putNames putOwner
+unfolding putLabel putTitles putOwned
 kept-label b l room w =
     let b₁ = over b 8 (l .application) in
     let b₂ = over b₁ 24 (l .volume) in
@@ -66,16 +62,16 @@ kept-label b l room w =
     (kept-wider k₆ (omega arith) (omega arith))
 
 module _ (b : List ℕ) (room : 2048 ≤ length b) where
-  pub kept-mark : Kept b (putMark b) 0 8
-  unfolding putMark
+  pub kept-mark : Kept b (putIdentity b) 0 8
+  unfolding putIdentity
   kept-mark = kept-trans (kept-wider (kept-putU32 b 0 0x49532643) (omega arith) (omega arith)) (kept-wider (kept-putU32 (putU32 b 0 0x49532643) 4 0x30312e30) (omega arith) (omega arith))
 
-  pub mark-is : u32At (putMark b) 0 ≡ 0x49532643
-  unfolding putMark
+  pub mark-is : u32At (putIdentity b) 0 ≡ 0x49532643
+  unfolding putIdentity
   mark-is = u32-kept 0 (kept-putU32 (putU32 b 0 0x49532643) 4 0x30312e30) (inl (omega arith)) ∙ u32-put-same b 0 0x49532643 (omega arith)
 
-  pub version-is : u32At (putMark b) 4 ≡ 0x30312e30
-  unfolding putMark
+  pub version-is : u32At (putIdentity b) 4 ≡ 0x30312e30
+  unfolding putIdentity
   version-is = u32-put-same (putU32 b 0 0x49532643) 4 0x30312e30 (omega (arith, kept-putU32 b 0 0x49532643 .len))
 
 pub record Sizes (b : List ℕ) (z : ℕ) : Type 0 where
@@ -90,7 +86,7 @@ module _ (b : List ℕ) (z : ℕ) (room : 2048 ≤ length b) where
   pub kept-sizes : Kept b (putSizes b z) 0 152
   unfolding putSizes
   kept-sizes =
-      let b₁ = putMark b in
+      let b₁ = putIdentity b in
       let b₂ = putU32 b₁ 130 z in
       let b₃ = putU16 b₂ 134 1024 in
       let b₄ = putU16 b₃ 136 1024 in
@@ -101,7 +97,7 @@ module _ (b : List ℕ) (z : ℕ) (room : 2048 ≤ length b) where
   pub sizes-are : Sizes (putSizes b z) z
   unfolding putSizes
   sizes-are =
-      let b₁ = putMark b in
+      let b₁ = putIdentity b in
       let b₂ = putU32 b₁ 130 z in
       let b₃ = putU16 b₂ 134 1024 in
       let b₄ = putU16 b₃ 136 1024 in
@@ -244,50 +240,50 @@ module _ (p : Places) (b : List ℕ) (L : Tables p (length b)) where
   room₂ : p .sectortable + 128 * (p .zones - 1) + 128 ≤ length begun
   room₂ = omega (arith, L .least, L .end, kept-zoned .len, kept-begun .len)
 
-  kept-rest : Kept begun (putSystem p b) (p .sectortable + 128 * (p .zones - 1)) 128
-  unfolding putSystem begun zoned
+  kept-rest : Kept begun (putSystemZones p b) (p .sectortable + 128 * (p .zones - 1)) 128
+  unfolding putSystemZones begun zoned
   kept-rest = kept-run begun (p .sectortable + 128 * (p .zones - 1)) 128 255 room₂
 
-  kept-bits : Kept zoned (putSystem p b) (p .sectortable) (128 * p .zones)
+  kept-bits : Kept zoned (putSystemZones p b) (p .sectortable) (128 * p .zones)
   kept-bits = kept-trans (kept-wider kept-begun (omega arith) (omega (arith, L .least))) (kept-wider kept-rest (omega arith) (omega (arith, L .least)))
 
   -- outside both tables nothing changes
-  pub kept-system : Kept b (putSystem p b) (p .zonetable) (p .sectortable + 128 * p .zones - p .zonetable)
+  pub kept-system : Kept b (putSystemZones p b) (p .zonetable) (p .sectortable + 128 * p .zones - p .zonetable)
   kept-system = kept-trans (kept-wider kept-zoned (omega arith) (omega (arith, L .sector))) (kept-wider kept-bits (omega (arith, L .sector)) (omega (arith, L .sector)))
 
-  pub system-tails : (j : ℕ) → Apart j 1 (p .zonetable) (6 * p .zones) → Apart j 1 (p .sectortable) (128 * p .zones) → getD (putSystem p b) j 0 ≡ getD b j 0
+  pub system-tails : (j : ℕ) → Apart j 1 (p .zonetable) (6 * p .zones) → Apart j 1 (p .sectortable) (128 * p .zones) → getD (putSystemZones p b) j 0 ≡ getD b j 0
   system-tails j u w = kept-bits .out j w ∙ kept-zoned .out j u
 
-  pub system-first : zoneAt p (putSystem p b) 1 ≡ record { ztype = 1; free = 65535; third = p .zones }
+  pub system-first : zoneAt p (putSystemZones p b) 1 ≡ record { ztype = 1; free = 65535; third = p .zones }
   system-first = zone-kept p 1 kept-bits (inl (omega (arith, L .least, L .sector))) ∙ first-zone
 
-  pub system-last : zoneAt p (putSystem p b) (p .zones) ≡ record { ztype = 65535; free = 65535; third = 1 }
+  pub system-last : zoneAt p (putSystemZones p b) (p .zones) ≡ record { ztype = 65535; free = 65535; third = 1 }
   system-last = zone-kept p (p .zones) kept-bits (inl (omega (arith, L .least, L .sector))) ∙ last-zone
 
-  pub system-other : (z : ℕ) → z < p .zones → 2 ≤ z → zoneAt p (putSystem p b) z ≡ zoneAt p b z
+  pub system-other : (z : ℕ) → z < p .zones → 2 ≤ z → zoneAt p (putSystemZones p b) z ≡ zoneAt p b z
   system-other z l two = zone-kept p z kept-bits (inl (omega (arith, L .sector))) ∙ other-zone z l two
 
-  first-byte : (k : ℕ) → k < 128 → getD (putSystem p b) (p .sectortable + k) 0 ≡ 255
+  first-byte : (k : ℕ) → k < 128 → getD (putSystemZones p b) (p .sectortable + k) 0 ≡ 255
   unfolding begun
   first-byte k l = kept-rest .out (p .sectortable + k) (inl (omega (arith, L .least))) ∙ run-at zoned (p .sectortable) 128 255 room₁ k l
 
-  last-byte : (k : ℕ) → k < 128 → getD (putSystem p b) (p .sectortable + 128 * (p .zones - 1) + k) 0 ≡ 255
-  unfolding putSystem begun zoned
+  last-byte : (k : ℕ) → k < 128 → getD (putSystemZones p b) (p .sectortable + 128 * (p .zones - 1) + k) 0 ≡ 255
+  unfolding putSystemZones begun zoned
   last-byte k l = run-at begun (p .sectortable + 128 * (p .zones - 1)) 128 255 room₂ k l
 
-  middle-byte : (k : ℕ) → k < 128 * (p .zones - 1) → 128 ≤ k → getD (putSystem p b) (p .sectortable + k) 0 ≡ getD b (p .sectortable + k) 0
+  middle-byte : (k : ℕ) → k < 128 * (p .zones - 1) → 128 ≤ k → getD (putSystemZones p b) (p .sectortable + k) 0 ≡ getD b (p .sectortable + k) 0
   middle-byte k l lo =
       kept-rest .out (p .sectortable + k) (inl (omega arith)) ∙ kept-begun .out (p .sectortable + k) (inr (omega arith)) ∙ kept-zoned .out (p .sectortable + k) (inr (omega (arith, L .sector)))
 
-  pub system-bits : (s : ℕ) → (s < 1024) ⊎ ((1024 * (p .zones - 1) ≤ s) × (s < 1024 * p .zones)) → bitAt (putSystem p b) (p .sectortable) s ≡ 1
+  pub system-bits : (s : ℕ) → (s < 1024) ⊎ ((1024 * (p .zones - 1) ≤ s) × (s < 1024 * p .zones)) → bitAt (putSystemZones p b) (p .sectortable) s ≡ 1
   system-bits s h =
-      bit-byte (putSystem p b) (p .sectortable) s 1 (omega arith)
+      bit-byte (putSystemZones p b) (p .sectortable) s 1 (omega arith)
       (⊎-elim (λ w. first-byte (s / 8) (omega arith))
       (λ w. let e : p .sectortable + s / 8 ≡ p .sectortable + 128 * (p .zones - 1) + (s / 8 - 128 * (p .zones - 1)) = omega (arith, w .0) in
       rw e (last-byte (s / 8 - 128 * (p .zones - 1)) (omega (arith, w .0, w .1, L .least)))) h)
 
-  pub clear-bits : (s : ℕ) → s < 1024 * (p .zones - 1) → 1024 ≤ s → getD b (p .sectortable + s / 8) 0 ≡ 0 → bitAt (putSystem p b) (p .sectortable) s ≡ 0
-  clear-bits s l lo e = bit-byte (putSystem p b) (p .sectortable) s 0 (omega arith) (middle-byte (s / 8) (omega arith) (omega arith) ∙ e)
+  pub clear-bits : (s : ℕ) → s < 1024 * (p .zones - 1) → 1024 ≤ s → getD b (p .sectortable + s / 8) 0 ≡ 0 → bitAt (putSystemZones p b) (p .sectortable) s ≡ 0
+  clear-bits s l lo e = bit-byte (putSystemZones p b) (p .sectortable) s 0 (omega arith) (middle-byte (s / 8) (omega arith) (omega arith) ∙ e)
 
 -- ---- index tables
 

@@ -1,4 +1,4 @@
--- What the writers of format leave, one after the other. Assumes nothing.
+-- What the writers of format leave, one after the other.
 use mathlib.Core.Path.{_≡_, refl, sym, ap, _∙_}
 use Prim.Native.Nat.{ℕ, _+_, _-_, _*_, _≤_}
 use native.Mathlib.Numerals.{add-one}
@@ -9,7 +9,7 @@ use lib.Seq.{drop-length}
 use Rattle.field.specs.Numbers.{putU32}
 use Rattle.field.specs.Parts.{over}
 use Rattle.tables.specs.declared.places.Places.{Places}
-use Rattle.tables.specs.Format.{Label, Formattable, freshPlaces, putLabel, putSizes, putStarts, putStatus, putSystem, putLinks, formatted}
+use Rattle.tables.specs.Format.{Label, Formattable, freshPlaces, putLabel, putSizes, putStarts, putStatus, putSystemZones, putLinks, formatted}
 use Rattle.tables.specs.Places.{Layout}
 use Rattle.tables.proofs.PlaceLaws.{stand-layout}
 
@@ -48,10 +48,10 @@ layout-same p q m len e f l = rw (e, f) l
 
 -- ---- what the writers leave, one after the other
 
-pub tables-end : (z n : ℕ) (p : Places) (b x y : List ℕ) → p ≡ freshPlaces z n → x ≡ putSystem p b → y ≡ putLinks p x (p .indexes - 1) → y ≡ putLinks (freshPlaces z n) (putSystem (freshPlaces z n) b) (n - 1)
+pub tables-end : (z n : ℕ) (p : Places) (b x y : List ℕ) → p ≡ freshPlaces z n → x ≡ putSystemZones p b → y ≡ putLinks p x (p .indexes - 1) → y ≡ putLinks (freshPlaces z n) (putSystemZones (freshPlaces z n) b) (n - 1)
 tables-end z n p b x y e f g = g ∙ rw (f, e)
 
 pub format-end : (z n : ℕ) (l : Label) (b w x y u : List ℕ) → w ≡ replicate (length b) 0 → x ≡ putStarts (putSizes (putLabel w l) z) z → y ≡ putStatus x n (l .date)
-    → u ≡ putLinks (freshPlaces z n) (putSystem (freshPlaces z n) y) (n - 1) → u ≡ formatted (length b) z n l
+    → u ≡ putLinks (freshPlaces z n) (putSystemZones (freshPlaces z n) y) (n - 1) → u ≡ formatted (length b) z n l
 unfolding formatted
 format-end z n l b w x y u e f g h = h ∙ rw (g, f, e)

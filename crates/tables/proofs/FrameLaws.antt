@@ -1,5 +1,5 @@
 -- What a write leaves of the books: an index table apart from it; and all that stands outside sector 1, if it is a write into sector 1.
--- Assumes nothing.
+--
 use mathlib.Core.Path.{_≡_, refl, sym, _∙_}
 use mathlib.Core.Logic.{inl, inr, ⊎-elim}
 use mathlib.Core.List.{List}

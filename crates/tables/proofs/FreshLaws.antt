@@ -1,4 +1,4 @@
--- A view of books that hold no file breaks no rule on zones, blocks, chains, pointers, names and counts. Assumes nothing.
+-- A view of books that hold no file breaks no rule on zones, blocks, chains, pointers, names and counts.
 use mathlib.Core.Path.{_≡_, refl, sym, ap, _∙_}
 use mathlib.Core.Logic.{_⊎_, inl, inr}
 use Prim.Native.Nat.{ℕ, zero, suc, _+_, _-_, _*_, _≤_, _<_}
@@ -7,7 +7,7 @@ use mathlib.Core.List.{List}
 use borrow.Author.Tests.{eq-eqb, ne-eqb}
 use Rattle.field.specs.Parts.{AllBytes}
 use Rattle.field.proofs.Sums.{sum-zero, sum-one}
-use Rattle.tables.specs.Indexes.{wordOf, linkOf, slotsOf}
+use Rattle.tables.specs.Indexes.{wordOf, linkOf}
 use Rattle.tables.specs.Views.{View, Free, walk, next, onlyIf, tally, overOf, pointersOver}
 use Rattle.tables.specs.Rules.R2.{Reads, ZoneBits, R2}
 use Rattle.tables.specs.Rules.R3.{R3}
@@ -18,6 +18,7 @@ use Rattle.tables.specs.Rules.R7.{R7}
 use Rattle.tables.specs.Rules.R8.{R8}
 use Rattle.tables.specs.Rules.R9.{freeOne, activeOne, deletedOne, systemOne, directoryOne, R9}
 use Rattle.tables.proofs.IndexLaws.{slots-free}
+use Rattle.tables.proofs.PointerLaws.{over-none}
 
 -- no file: two system zones, the others untyped and clear, all index tables free and chained 1, 2, .., N
 pub record Fresh (v : View) : Type 0 where
@@ -61,10 +62,6 @@ system-none i t lo e = let n : activeOne i t ≡ 1 → ⊥ = λ h. omega (arith,
 directory-none : (i : ℕ) (t : List ℕ) → 1 ≤ i → wordOf t ≡ 0 → directoryOne i t ≡ 0
 unfolding directoryOne onlyIf
 directory-none i t lo e = let n : activeOne i t ≡ 1 → ⊥ = λ h. omega (arith, active-none i t lo e) in simp (ne-eqb _ _ n)
-
-over-none : (i : ℕ) (t : List ℕ) (s : ℕ) → wordOf t ≡ 0 → overOf i t s ≡ 0
-unfolding overOf
-over-none i t s e = sum-zero (slotsOf i t) _ (λ k l. absurd (omega (arith, slots-free i t e)))
 
 module _ (v : View) (f : Fresh v) where
   none : (g : ℕ → List ℕ → ℕ) → ((i : ℕ) (t : List ℕ) → 1 ≤ i → wordOf t ≡ 0 → g i t ≡ 0) → tally v g ≡ 0

@@ -1,6 +1,6 @@
--- Numbers in order: the first that applies is one, and how a judge comes to it, test by test. Assumes nothing.
+-- Numbers in order: the first that applies is one, and how a judge comes to it, test by test.
 use mathlib.Core.Path.{_≡_, refl, sym, _∙_}
-use mathlib.Core.Logic.{_⊎_, inl, inr, _≢_}
+use mathlib.Core.Logic.{inl, inr, _≢_}
 use mathlib.Core.List.{List, [], _∷_, _++_}
 use Prim.Native.Nat.{ℕ}
 use lib.ListN.{length}

@@ -1,4 +1,4 @@
--- The zones that a type lacks: a law for each way out of what counts them. Assumes nothing.
+-- The zones that a type lacks: a law for each way out of what counts them.
 use mathlib.Core.Path.{_≡_, refl, sym, ap, ap₂, _∙_}
 use mathlib.Core.Bool.{Bool, true, false}
 use Prim.Native.Nat.{ℕ, zero, suc, _+_, _-_, _*_, _/_, _≤_, _<_}
@@ -15,7 +15,8 @@ use Rattle.tables.proofs.BlockLaws.{block-of}
 use Rattle.tables.specs.declared.zone.ZoneEntry.{ZoneEntry}
 use Rattle.tables.specs.Blocks.{Typed, blockOf}
 use Rattle.tables.specs.Open.{isOpen, openZones}
-use Rattle.tables.specs.Room.{countAt, perZone, spareIn, spareOf, lackOf, Enough}
+use Rattle.tables.specs.Room.{countAt, spareIn, spareOf, lackOf, Enough}
+use Rattle.tables.specs.Blocks.{perZone}
 use Rattle.tables.specs.Views.{View, onlyIf}
 
 -- a zone has a block at least

@@ -1,4 +1,4 @@
--- Tables that stand as R1 says leave every entry its room. Assumes nothing.
+-- Tables that stand as R1 says leave every entry its room.
 use Prim.Native.Nat.{ℕ, _*_, _≤_}
 use native.Mathlib.Omega.{arith}
 use Rattle.tables.specs.declared.places.Places.{Places}

@@ -1,15 +1,17 @@
--- Sectors under pointers: a run as a function that is 1 on it, and what R7's count says of single pointers. Assumes nothing.
-use mathlib.Core.Path.{_≡_, refl, sym, ap, _∙_}
-use mathlib.Core.Logic.{_≢_, _⊎_, inl, inr, ⊎-elim}
-use Prim.Native.Nat.{ℕ, zero, suc, _+_, _-_, _*_, _≤_, _<_}
-use native.Mathlib.Decide.{decLt, decLe}
+-- Sectors under pointers: a run as a function that is 1 on it, and what R7's count says of single pointers.
+use mathlib.Core.Path.{_≡_}
+use mathlib.Core.Logic.{_⊎_, inl, inr, ⊎-elim}
+use mathlib.Core.List.{List}
+use Prim.Native.Nat.{ℕ, _+_, _-_, _*_, _≤_, _<_}
+use native.Mathlib.Decide.{ℕ-discrete, decLt, decLe}
 use native.Mathlib.Omega.{arith}
 use borrow.Author.Tests.{le-leb, lt-leb, lt-ltb, le-ltb}
-use Rattle.field.proofs.Sums.{sum-some, sum-single, sum-part}
-use Rattle.tables.specs.Indexes.{slotsOf, startOf, countOf, Used}
+use Rattle.field.proofs.Sums.{sum-zero, sum-some, sum-single, sum-part, sum-once}
+use Rattle.tables.specs.Indexes.{wordOf, slotsOf, startOf, countOf}
 use Rattle.tables.specs.Views.{View, cov, overOf, tally, pointersOver, Under}
 use Rattle.tables.specs.Rules.R6.{R6}
 use Rattle.tables.specs.Rules.R7.{R7}
+use Rattle.tables.proofs.IndexLaws.{slots-free}
 
 -- ---- runs
 
@@ -92,6 +94,11 @@ module _ (v : View) (s : ℕ) where
             j (u .slot) (omega (arith, cov-in _ _ s (u .from) (u .to))) l (w' .slot) (omega (arith, cov-in _ _ s (w' .from) (w' .to))),
       )
 
+-- no pointer of a free table lies over a sector
+pub over-none : (i : ℕ) (t : List ℕ) (s : ℕ) → wordOf t ≡ 0 → overOf i t s ≡ 0
+unfolding overOf
+over-none i t s e = sum-zero (slotsOf i t) _ (λ k l. absurd (omega (arith, slots-free i t e)))
+
 -- ---- R7 in the paper's words
 
 module _ (v : View) (r6 : R6 v) (r7 : R7 v) (bits : (s : ℕ) → v .bit s < 2) where
@@ -115,3 +122,44 @@ module _ (v : View) (r6 : R6 v) (r7 : R7 v) (bits : (s : ℕ) → v .bit s < 2) 
   under-set s i j u =
       let h = under-inside i j s u in
       omega (arith, r7 s (h .1) (h .0), bits s, under-counts v s i j u)
+
+-- ---- the paper's words give the counting form
+
+module _ (v : View) (s : ℕ) (one : (i j k l : ℕ) → Under v i j s → Under v k l s → (i ≡ k) × (j ≡ l)) where
+  -- a pointer that lies over s
+  at-slot : (i j : ℕ) → 1 ≤ i → i ≤ v .indexes → j < slotsOf i (v .table i) → 0 < cov (startOf i (v .table i) j) (countOf i (v .table i) j) s → Under v i j s
+  at-slot i j lo hi l h =
+      ⊎-elim (λ c. record { low = lo; high = hi; slot = l; from = c .low; to = c .high }) (λ z. absurd (omega arith)) (cov-cases (startOf i (v .table i) j) (countOf i (v .table i) j) s)
+
+  over-few : (i : ℕ) → 1 ≤ i → i ≤ v .indexes → overOf i (v .table i) s ≤ 1
+  unfolding overOf
+  over-few i lo hi =
+      sum-once (slotsOf i (v .table i)) (λ j. cov (startOf i (v .table i) j) (countOf i (v .table i) j) s)
+      (λ j l. ⊎-elim (λ c. omega (arith, c .one)) (λ z. omega arith) (cov-cases (startOf i (v .table i) j) (countOf i (v .table i) j) s))
+      (λ j l k m hj hk. one i j i k (at-slot i j lo hi l hj) (at-slot i k lo hi m hk) .1)
+
+  over-place : (i : ℕ) → 1 ≤ i → i ≤ v .indexes → 0 < overOf i (v .table i) s → (j : ℕ) × Under v i j s
+  unfolding overOf
+  over-place i lo hi h = let p = sum-some (slotsOf i (v .table i)) _ h in (p .0, at-slot i (p .0) lo hi (p .1) (p .2))
+
+  pub over-once : pointersOver v s ≤ 1
+  unfolding pointersOver tally
+  over-once =
+      sum-once (v .indexes) (λ n. overOf (n + 1) (v .table (n + 1)) s) (λ n l. over-few (n + 1) (omega arith) (omega arith)) (λ n l m k hn hm.
+      (let a = over-place (n + 1) (omega arith) (omega arith) hn in
+      let b = over-place (m + 1) (omega arith) (omega arith) hm in
+      let e : n + 1 ≡ m + 1 = one (n + 1) (a .0) (m + 1) (b .0) (a .1) (b .1) .0 in
+      omega arith))
+
+-- R7 follows from "No sector is under two pointers. Outside zones 1 and Z the set bits are exactly the sectors under pointers."
+pub words-R7 : (v : View) → ((s : ℕ) → v .bit s < 2) → ((s i j k l : ℕ) → Under v i j s → Under v k l s → (i ≡ k) × (j ≡ l))
+    → ((s : ℕ) → s < 1024 * (v .zones - 1) → 1024 ≤ s → v .bit s ≡ 1 → (i : ℕ) × (j : ℕ) × Under v i j s)
+    → ((s i j : ℕ) → s < 1024 * (v .zones - 1) → 1024 ≤ s → Under v i j s → v .bit s ≡ 1) → R7 v
+words-R7 v bits one set under s l lo =
+    elim (ℕ-discrete (v .bit s) 1) [
+      | yes e ↦ (let u = set s l lo e in omega (arith, over-once v s (one s), under-counts v s (u .0) (u .1) (u .2)))
+      | no ne ↦ elim (decLt 0 (pointersOver v s)) [
+        | yes h ↦ (let u = under-some v s h in absurd (ne (under s (u .0) (u .1) l lo (u .2))))
+        | no h ↦ (let z : v .bit s ≡ 0 = omega (arith, bits s) in omega arith)
+      ]
+    ]

@@ -1,5 +1,5 @@
 -- Room: "12 is answered exactly when no set of distinct free blocks, with each open zone given one type, supplies the counts", where the
--- criterion over the zone table is what is tested. Assumes nothing.
+-- criterion over the zone table is what is tested.
 use mathlib.Core.Path.{_≡_, refl, sym, ap, _∙_, subst}
 use mathlib.Core.Logic.{_⊎_, ⊎-elim}
 use mathlib.Core.Bool.{Bool, true, false, cond, _&&_, _||_, and-eq-true-iff}
@@ -8,10 +8,8 @@ use native.Mathlib.Nat.{add-zero, add-sub-cancel, div-add-mod', mod-lt, div-lt-i
 use native.Mathlib.Omega.{arith}
 use lib.Dec.{eqb, leb, ltb}
 use borrow.Author.Tests.{eqb-true, eq-eqb, ne-eqb, leb-true, ltb-true, le-leb, lt-ltb}
-use Rattle.field.specs.Says.{Says}
 use Rattle.field.specs.Sum.{sumTo}
 use Rattle.field.proofs.Sums.{sum-same, sum-full}
-use Rattle.field.proofs.Tests.{says-map}
 use Rattle.tables.proofs.BlockLaws.{block-of, block-in}
 use Rattle.tables.proofs.ChoiceLaws.{count, under, fit, size, begun, firsts, lack, handed, choice-needs, choice-enough, owner-low, owner-high}
 use Rattle.tables.proofs.LackLaws.{some-blocks}
@@ -19,7 +17,8 @@ use Rattle.tables.proofs.OpenLaws.{open-untyped, open-typed}
 use Rattle.tables.specs.Blocks.{Typed, Block, blockOf}
 use Rattle.tables.specs.Kinds.{firstOf}
 use Rattle.tables.specs.Open.{isOpen, openZones}
-use Rattle.tables.specs.Room.{perZone, typeIn, FreeBlock, takenOf, Supply, spareIn, spareOf, lackOf, Enough}
+use Rattle.tables.specs.Room.{typeIn, FreeBlock, takenOf, Supply, spareIn, spareOf, lackOf, Enough}
+use Rattle.tables.specs.Blocks.{perZone}
 use Rattle.tables.specs.Rules.R1.{ceil}
 use Rattle.tables.specs.Rules.R2.{R2, ZoneBits, InUse}
 use Rattle.tables.specs.Rules.R3.{R3, Blocks}
@@ -229,7 +228,3 @@ module _ (v : View) where
         free = taken-free;
         supplies = λ t typed. let e : t - 3 + 3 ≡ t = omega arith in subst (λ (u : ℕ). takenOf v given taken u ≡ c u) e (supplied h (t - 3) (omega arith));
       }
-
-    -- so the test of the one says the other
-    pub room-says : (c : ℕ → ℕ) (r : Bool) → Says r (Enough v c) → Says r (Supply v c)
-    room-says c r = says-map r (enough-supply c) (supply-enough c)

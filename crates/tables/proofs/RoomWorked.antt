@@ -1,4 +1,4 @@
--- Room in worked instances, by computation: bench cards P7 to P9 as far as their zones go, and a zone that is wholly free. Assumes nothing.
+-- Room in worked instances, by computation: bench cards P7 to P9 as far as their zones go, and a zone that is wholly free.
 use mathlib.Core.Path.{_≡_, refl}
 use mathlib.Core.Bool.{cond}
 use mathlib.Core.List.{List, [], _∷_}

@@ -1,5 +1,5 @@
--- Views that are the same to the rules: each of R2 to R8 goes from one to the other, and R9 with sector 1's counts. Assumes nothing.
-use mathlib.Core.Path.{_≡_, refl, sym, ap, _∙_}
+-- Views that are the same to the rules: each of R2 to R8 goes from one to the other, and R9 with sector 1's counts.
+use mathlib.Core.Path.{_≡_, sym, ap, _∙_}
 use mathlib.Core.Logic.{inl, inr, ⊎-elim}
 use mathlib.Core.List.{List}
 use Prim.Native.Nat.{ℕ, zero, suc, _+_, _-_, _*_, _/_, _≤_, _<_}
@@ -38,9 +38,6 @@ module _ (bit bit' : ℕ → ℕ) (from size : ℕ) (block : Block size) (same :
     whole = λ k l j lj. block-bits k l j lj ∙ b .whole k l j lj ∙ sym (block-first k l);
     number = sum-same (1024 / size) _ _ (λ k l. ap (λ (x : ℕ). 1 - x) (block-first k l)) ∙ b .number;
   }
-
-pub same-refl : (v : View) → Same v v
-same-refl v = record { zones = refl; indexes = refl; zone = λ z lo hi. refl; bit = λ s l. refl; table = λ i lo hi. refl; head = refl }
 
 -- ---- zones and sectors
 

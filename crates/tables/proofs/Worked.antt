@@ -1,5 +1,5 @@
 -- Worked instances, by computation: what the layout definitions read in a fresh volume of Z = 3, N = 8, S = 5, and in tables whose bytes
--- are numbered. Assumes nothing.
+-- are numbered.
 use mathlib.Core.Path.{_≡_, refl}
 use mathlib.Core.List.{List, [], _∷_}
 use Prim.Native.Nat.{ℕ, zero, suc, _+_, _*_}

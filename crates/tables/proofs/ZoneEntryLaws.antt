@@ -1,4 +1,4 @@
--- Zone entries under a frame, and after they are written. Assumes nothing.
+-- Zone entries under a frame, and after they are written.
 use mathlib.Core.Path.{_≡_, _∙_}
 use mathlib.Core.Logic.{_⊎_, inl, inr, ⊎-elim}
 use Prim.Native.Nat.{ℕ, _+_, _-_, _*_, _≤_}

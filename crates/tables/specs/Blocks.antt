@@ -7,9 +7,18 @@ pub record Typed (t : ℕ) : Type 0 where
   pub low : 3 ≤ t
   pub high : t ≤ 8
 
+-- the six types in order, C to H, by how many come before; lists of counts run from H to C, so the type of a list's head is the one at the
+-- length of its tail
+abbrev pub typeAt : ℕ → ℕ
+typeAt k = k + 3
+
 -- the sectors of a block of zones of type t
 unfoldable pub blockOf : ℕ → ℕ
 blockOf t = 4 ^ (t - 3)
+
+-- the blocks of a zone of type t
+abbrev pub perZone : ℕ → ℕ
+perZone t = 1024 / blockOf t
 
 -- a zone is made of whole blocks of so many sectors: all that is ever used of the six sizes
 pub record Block (size : ℕ) : Type 0 where

@@ -1,15 +1,12 @@
 -- What numbers 1 to 4 ask of the books, before any request.
 use mathlib.Core.Path.{_≡_}
 use Prim.Native.Nat.{ℕ, _%_, _≤_}
-use mathlib.Core.Logic.{_≢_}
-use mathlib.Core.List.{List, [], _∷_}
+use mathlib.Core.List.{List, [], _∷_, _++_}
 use lib.ListN.{length}
 use Rattle.tables.specs.Sector0.{markOf, versionOf, zonesOf, sectorsPerZoneOf, bytesPerSectorOf, indexSizeOf}
 use Rattle.tables.specs.Sector1.{indexesOf}
 use Rattle.tables.specs.declared.places.Places.{Places}
-use Rattle.tables.specs.declared.check.Checked.{Checked}
-use Rattle.tables.specs.declared.check.Checked.the-variants.{Fine, Refused}
-use Rattle.tables.specs.Gates.{Test, asks, Gate}
+use Rattle.tables.specs.Gates.{Test, asks}
 use Rattle.tables.specs.Places.{placesOf, Layout}
 use Rattle.tables.specs.Rules.R1.{Stand}
 use Rattle.tables.specs.Lawful.{Lawful}
@@ -39,9 +36,13 @@ pub record Placed (b : List ℕ) : Type 0 where
   pub limits : Limits b
   pub stand : Stand (placesOf b) (length b)
 
--- numbers 1 to 4 in the paper's order; 4 "another rule broken"
+-- numbers 1 to 3 in the paper's order: whether there are tables to examine
+abbrev pub placeTests : List ℕ → List Test
+placeTests b = asks 1 (Sized b) ∷ asks 2 (Marked b) ∷ asks 3 (Placed b) ∷ []
+
+-- then 4 "another rule broken"
 abbrev pub bookTests : List ℕ → List Test
-bookTests b = asks 1 (Sized b) ∷ asks 2 (Marked b) ∷ asks 3 (Placed b) ∷ asks 4 (Lawful (placesOf b) b) ∷ []
+bookTests b = placeTests b ++ (asks 4 (Lawful (placesOf b) b) ∷ [])
 
 -- books that none of them refuses, with their places
 pub record Good (b : List ℕ) (p : Places) : Type 0 where
@@ -51,8 +52,3 @@ pub record Good (b : List ℕ) (p : Places) : Type 0 where
   pub placed : Placed b
   pub layout : Layout p (length b)
   pub lawful : Lawful p b
-
--- what an examination of the books answers: their places, or the first number that applies
-abbrev pub Examined : List ℕ → Checked → Type 0
-Examined b (Fine p) = Good b p
-Examined b (Refused n) = Gate (bookTests b) n × (n ≢ 0)

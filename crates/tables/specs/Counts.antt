@@ -9,7 +9,8 @@ use lib.ListN.{length}
 use lib.IntN.{ℤ, pos, negsuc}
 use Rattle.tables.specs.declared.counts.Chosen.{Chosen}
 use Rattle.tables.specs.declared.counts.Chosen.the-variants.{Types, Bad}
-use Rattle.tables.specs.Blocks.{blockOf}
+use Rattle.tables.specs.Blocks.{typeAt, blockOf}
+use Rattle.tables.specs.Rules.R1.{ceil}
 
 -- "0 (default: all six), or any sum of 4 (C), 8, 16, 32, 64, 128 (H)": the sums are the multiples of 4 up to 252, all six weights together
 unfoldable pub typesOf : ℕ → Chosen
@@ -40,36 +41,32 @@ unfoldable pub noneBelow : ℕ → ℕ → Bool
 unfolding weightOf
 noneBelow flag t = eqb (flag % weightOf t) 0
 
--- the blocks of so many bytes that hold n bytes
-unfoldable pub roundUp : ℕ → ℕ → ℕ
-roundUp n bytes = (n + (bytes - 1)) / bytes
-
 -- "quotient by the block's bytes", "at the last chosen type round up"; none of a type that is not chosen
-unfoldable pub countAt : ℕ → ℕ → ℕ → ℕ
-unfolding isChosen noneBelow blockBytes roundUp
-countAt flag t rest = cond (isChosen flag t) (cond (noneBelow flag t) (roundUp rest (blockBytes t)) (rest / blockBytes t)) 0
+unfoldable pub shareCount : ℕ → ℕ → ℕ → ℕ
+unfolding isChosen noneBelow blockBytes
+shareCount flag t rest = cond (isChosen flag t) (cond (noneBelow flag t) (ceil rest (blockBytes t)) (rest / blockBytes t)) 0
 
 -- "remainder passed on"
-unfoldable pub restAt : ℕ → ℕ → ℕ → ℕ
+unfoldable pub shareRest : ℕ → ℕ → ℕ → ℕ
 unfolding isChosen blockBytes
-restAt flag t rest = cond (isChosen flag t) (rest % blockBytes t) rest
+shareRest flag t rest = cond (isChosen flag t) (rest % blockBytes t) rest
 
--- "From the largest chosen type down": the counts of the k types from k + 2 down to 3 for `rest` bytes
+-- "From the largest chosen type down": the counts of the k smallest types for `rest` bytes
 unfoldable pub countsDown : ℕ → ℕ → ℕ → List ℕ
-unfolding countAt restAt
+unfolding shareCount shareRest
 countsDown flag rest zero = []
-countsDown flag rest (suc k) = countAt flag (k + 3) rest ∷ countsDown flag (restAt flag (k + 3) rest) k
+countsDown flag rest (suc k) = shareCount flag (typeAt k) rest ∷ countsDown flag (shareRest flag (typeAt k) rest) k
 
 -- "The six block counts H to C", for a file of `size` bytes
 unfoldable pub countsOf : ℕ → ℕ → List ℕ
 unfolding countsDown
 countsOf flag size = countsDown flag size 6
 
--- the bytes of the blocks so counted; the type of the first of k counts is k + 2
+-- the bytes of the blocks so counted
 unfoldable pub suppliedBy : List ℕ → ℕ
 unfolding blockBytes
 suppliedBy [] = 0
-suppliedBy (c ∷ cs) = c * blockBytes (length cs + 3) + suppliedBy cs
+suppliedBy (c ∷ cs) = c * blockBytes (typeAt (length cs)) + suppliedBy cs
 
 -- what there are counts of: a sum of the six weights, "file size, fixed: 1 to 2,147,483,647"
 pub record Countable (flag size : ℕ) : Type 0 where
@@ -81,5 +78,5 @@ pub record Countable (flag size : ℕ) : Type 0 where
 
 -- one step: a type's count, and what is passed on
 pub record Shared (flag t rest count left : ℕ) : Type 0 where
-  pub counted : count ≡ countAt flag t rest
-  pub passed : left ≡ restAt flag t rest
+  pub counted : count ≡ shareCount flag t rest
+  pub passed : left ≡ shareRest flag t rest

@@ -3,10 +3,12 @@
 use Prim.Native.Nat.{ℕ, zero, suc, _+_, _-_, _*_, _≤_}
 use mathlib.Core.List.{List}
 use lib.ListN.{length, replicate}
-use Rattle.field.specs.Numbers.{putU16, putU32}
+use Rattle.field.specs.Numbers.{putU32}
 use Rattle.field.specs.Parts.{over}
 use Rattle.tables.specs.declared.places.Places.{Places}
 use Rattle.tables.specs.Dates.{Date}
+use Rattle.tables.specs.Sector0.{putMark, putVersion, putApplication, putVolumeName, putVolumeId, putOwner, putOwnerCode, putInitialized, putZones, putSectorsPerZone, putBytesPerSector, putZoneStart, putSectorStart, putIndexStart, putIndexSize}
+use Rattle.tables.specs.Sector1.{putIndexes, putFree, putLatest, putFirstFree}
 use Rattle.tables.specs.Zones.{putZone}
 use Rattle.tables.specs.Rules.R1.{zoneBytes, sectorBytes, ceil, Stand}
 
@@ -45,37 +47,37 @@ pub record Writable (l : Label) : Type 0 where
   pub code : length (l .code) ≤ 32
   pub date : Date (l .date)
 
--- sector 0: texts, padded with the nulls that are there, and the date
-unfoldable pub putNames : List ℕ → List ℕ → List ℕ → ℕ → List ℕ
-putNames b application volume id = putU32 (over (over b 8 application) 24 volume) 56 id
+-- sector 0: texts, and the date
+unfoldable pub putTitles : List ℕ → List ℕ → List ℕ → ℕ → List ℕ
+putTitles b application volume id = putVolumeId (putVolumeName (putApplication b application) volume) id
 
-unfoldable pub putOwner : List ℕ → List ℕ → List ℕ → List ℕ → List ℕ
-putOwner b owner code date = over (over (over b 60 owner) 92 code) 124 date
+unfoldable pub putOwned : List ℕ → List ℕ → List ℕ → List ℕ → List ℕ
+putOwned b owner code date = putInitialized (putOwnerCode (putOwner b owner) code) date
 
 unfoldable pub putLabel : List ℕ → Label → List ℕ
-unfolding putNames putOwner
-putLabel b l = putOwner (putNames b (l .application) (l .volume) (l .id)) (l .owner) (l .code) (l .date)
+unfolding putTitles putOwned
+putLabel b l = putOwned (putTitles b (l .application) (l .volume) (l .id)) (l .owner) (l .code) (l .date)
 
 -- sector 0: mark "IS&C", version "01.0"
-unfoldable pub putMark : List ℕ → List ℕ
-putMark b = putU32 (putU32 b 0 0x49532643) 4 0x30312e30
+unfoldable pub putIdentity : List ℕ → List ℕ
+putIdentity b = putVersion (putMark b 0x49532643) 0x30312e30
 
 -- sector 0: sizes
 unfoldable pub putSizes : List ℕ → ℕ → List ℕ
-unfolding putMark
-putSizes b z = putU16 (putU16 (putU16 (putU32 (putMark b) 130 z) 134 1024) 136 1024) 150 128
+unfolding putIdentity
+putSizes b z = putIndexSize (putBytesPerSector (putSectorsPerZone (putZones (putIdentity b) z) 1024) 1024) 128
 
 -- sector 0: the start sectors
 unfoldable pub putStarts : List ℕ → ℕ → List ℕ
-putStarts b z = putU32 (putU32 (putU32 b 138 2) 142 (2 + ceil (6 * z) 1024)) 146 (2 + ceil (6 * z) 1024 + ceil z 8)
+putStarts b z = putIndexStart (putSectorStart (putZoneStart b 2) (2 + ceil (6 * z) 1024)) (2 + ceil (6 * z) 1024 + ceil z 8)
 
 -- sector 1: N index tables, all free, the first of them 1; no file, flag 0
 unfoldable pub putStatus : List ℕ → ℕ → List ℕ → List ℕ
-putStatus b n d = putU32 (over (putU32 (putU32 b 1024 n) 1036 n) 1044 d) 1050 1
+putStatus b n d = putFirstFree (putLatest (putFree (putIndexes b n) n) d) 1
 
 -- zones 1 and Z, and their sector bits
-unfoldable pub putSystem : Places → List ℕ → List ℕ
-putSystem p b =
+unfoldable pub putSystemZones : Places → List ℕ → List ℕ
+putSystemZones p b =
     over (over (putZone p (putZone p b 1 1 65535 (p .zones)) (p .zones) 65535 65535 1) (p .sectortable) (replicate 128 255)) (p .sectortable + 128 * (p .zones - 1)) (replicate 128 255)
 
 -- index tables 1 to k link to the next
@@ -85,6 +87,6 @@ putLinks p b (suc k) = putU32 (putLinks p b k) (p .indextable + 128 * k + 124) (
 
 -- books of len bytes, formatted for Z zones and N index tables
 unfoldable pub formatted : ℕ → ℕ → ℕ → Label → List ℕ
-unfolding putLabel putSizes putStarts putStatus putSystem putLinks
+unfolding putLabel putSizes putStarts putStatus putSystemZones putLinks
 formatted len z n l =
-    putLinks (freshPlaces z n) (putSystem (freshPlaces z n) (putStatus (putStarts (putSizes (putLabel (replicate len 0) l) z) z) n (l .date))) (n - 1)
+    putLinks (freshPlaces z n) (putSystemZones (freshPlaces z n) (putStatus (putStarts (putSizes (putLabel (replicate len 0) l) z) z) n (l .date))) (n - 1)

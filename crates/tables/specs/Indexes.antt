@@ -4,48 +4,101 @@
 -- seventeen pointers 22-123, next child 124-127. A pointer is start sector (4 bytes) and count (2).
 -- A free index is all zeros but 124-127, the next free one."
 use mathlib.Core.Bool.{cond}
-use Prim.Native.Nat.{ℕ, _+_, _-_, _*_, _<_}
+use Prim.Native.Nat.{ℕ, _+_, _-_, _*_, _/_, _%_, _<_}
 use mathlib.Core.List.{List}
-use lib.ListN.{take, drop}
+use lib.ListN.{take, drop, replicate}
 use lib.Dec.{eqb}
-use Rattle.field.specs.Numbers.{u16At, u32At}
+use Rattle.field.specs.Numbers.{u16At, u32At, putU16, putU32}
+use Rattle.field.specs.Parts.{over}
 use Rattle.field.specs.Sum.{sumTo}
 use Rattle.tables.specs.declared.places.Places.{Places}
 use Rattle.tables.specs.declared.index.Pointer.{Pointer}
 
+-- the byte at which index table i begins
+abbrev pub tablePlace : Places → ℕ → ℕ
+tablePlace p i = p .indextable + 128 * (i - 1)
+
 -- the bytes of index table i
 unfoldable pub tableAt : Places → List ℕ → ℕ → List ℕ
-tableAt p b i = take 128 (drop (p .indextable + 128 * (i - 1)) b)
+tableAt p b i = take 128 (drop (tablePlace p i) b)
 
--- ---- fields
+-- the books with the first n bytes of index table i null
+abbrev pub erased : Places → List ℕ → ℕ → ℕ → List ℕ
+erased p b i n = over b (tablePlace p i) (replicate n 0)
+
+-- ---- fields: of the bytes of a table its reader, and the books with another value in it
 
 abbrev pub wordOf : List ℕ → ℕ
 wordOf t = u32At t 0
 
+abbrev pub putWord : Places → List ℕ → ℕ → ℕ → List ℕ
+putWord p b i n = putU32 b (tablePlace p i) n
+
 abbrev pub parentOf : List ℕ → ℕ
 parentOf t = u32At t 4
+
+abbrev pub putParent : Places → List ℕ → ℕ → ℕ → List ℕ
+putParent p b i n = putU32 b (tablePlace p i + 4) n
 
 abbrev pub nameOf : List ℕ → List ℕ
 nameOf t = take 24 (drop 4 t)
 
+abbrev pub putName : Places → List ℕ → ℕ → List ℕ → List ℕ
+putName p b i name = over b (tablePlace p i + 4) name
+
 abbrev pub createdOf : List ℕ → List ℕ
 createdOf t = take 6 (drop 28 t)
+
+abbrev pub putCreated : Places → List ℕ → ℕ → List ℕ → List ℕ
+putCreated p b i date = over b (tablePlace p i + 28) date
 
 abbrev pub changedOf : List ℕ → List ℕ
 changedOf t = take 6 (drop 34 t)
 
+abbrev pub putChanged : Places → List ℕ → ℕ → List ℕ → List ℕ
+putChanged p b i date = over b (tablePlace p i + 34) date
+
 abbrev pub lengthOf : List ℕ → ℕ
 lengthOf t = u32At t 40
+
+abbrev pub putLength : Places → List ℕ → ℕ → ℕ → List ℕ
+putLength p b i n = putU32 b (tablePlace p i + 40) n
 
 abbrev pub attributeOf : List ℕ → ℕ
 attributeOf t = u16At t 44
 
+abbrev pub putAttribute : Places → List ℕ → ℕ → ℕ → List ℕ
+putAttribute p b i n = putU16 b (tablePlace p i + 44) n
+
 abbrev pub linkOf : List ℕ → ℕ
 linkOf t = u32At t 124
+
+abbrev pub putLink : Places → List ℕ → ℕ → ℕ → List ℕ
+putLink p b i n = putU32 b (tablePlace p i + 124) n
+
+-- "Attribute: weight 1 temporarily deleted, 2 writing, 4 write-protected, 8 read-protected, 16 variable size, 32 directory file, 64 system
+-- file": 1 if the weight w, a power of two, is in the attribute a, else 0; weight 1 is what is left of a division by 2
+abbrev pub weight : ℕ → ℕ → ℕ
+weight a w = a / w % 2
+
+abbrev pub deletedBit : ℕ → ℕ
+deletedBit a = a % 2
+
+abbrev pub variableBit : ℕ → ℕ
+variableBit a = weight a 16
+
+abbrev pub directoryBit : ℕ → ℕ
+directoryBit a = weight a 32
+
+abbrev pub systemBit : ℕ → ℕ
+systemBit a = weight a 64
 
 -- the pointer whose six bytes begin at o
 abbrev pub pointerAt : List ℕ → ℕ → Pointer
 pointerAt t o = record { start = record { 0 = u32At t o }; count = u16At t (o + 4) }
+
+unfoldable pub putPointer : Places → List ℕ → ℕ → ℕ → Pointer → List ℕ
+putPointer p b i at q = putU16 (putU32 b (tablePlace p i + at) (q .start .0)) (tablePlace p i + at + 4) (q .count)
 
 -- ---- tables by number: "Index i begins with 0, i or -i"
 
@@ -60,6 +113,11 @@ slotsOf i t = cond (eqb (wordOf t) 0) 0 (cond (eqb (wordOf t) i) 10 17)
 -- where the first of them begins
 unfoldable pub baseOf : ℕ → List ℕ → ℕ
 baseOf i t = cond (eqb (wordOf t) i) 64 22
+
+-- a parent's ten pointers, bytes 64 to 123, and a child's seventeen, bytes 22 to 123, end at the same byte: where the slot-th of so many
+-- begins
+abbrev pub pointerPlace : ℕ → ℕ → ℕ
+pointerPlace capacity slot = 118 - 6 * (capacity - slot)
 
 -- the j-th pointer's start sector and count
 abbrev pub startOf : ℕ → List ℕ → ℕ → ℕ

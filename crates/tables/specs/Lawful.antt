@@ -3,7 +3,7 @@ use mathlib.Core.List.{List}
 use Prim.Native.Nat.{ℕ}
 use Rattle.tables.specs.declared.places.Places.{Places}
 use Rattle.tables.specs.Views.{viewOf}
-use Rattle.tables.specs.Rules.R1.{R1, Tails}
+use Rattle.tables.specs.Rules.R1.{R1}
 use Rattle.tables.specs.Rules.R2.{R2}
 use Rattle.tables.specs.Rules.R3.{R3}
 use Rattle.tables.specs.Rules.R4.{R4}
@@ -21,19 +21,6 @@ pub record Lawful (p : Places) (b : List ℕ) : Type 0 where
   pub r4 : R4 (viewOf p b)
   pub r5 : R5 (viewOf p b)
   pub r6 : R6 (viewOf p b)
-  pub r7 : R7 (viewOf p b)
-  pub r8 : R8 (viewOf p b)
-  pub r9 : R9 (viewOf p b)
-
--- R1's tails and R2 to R5, and R7 to R9: the two halves in which they are examined
-pub record Tables (p : Places) (b : List ℕ) : Type 0 where
-  pub tails : Tails p b
-  pub r2 : R2 (viewOf p b)
-  pub r3 : R3 (viewOf p b)
-  pub r4 : R4 (viewOf p b)
-  pub r5 : R5 (viewOf p b)
-
-pub record Files (p : Places) (b : List ℕ) : Type 0 where
   pub r7 : R7 (viewOf p b)
   pub r8 : R8 (viewOf p b)
   pub r9 : R9 (viewOf p b)

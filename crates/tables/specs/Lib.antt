@@ -9,7 +9,7 @@ pub mod Dates
 pub mod Names
 pub mod Indexes
 pub mod Entries
-pub mod Findings
+pub mod Each
 pub mod Views
 pub mod Open
 pub mod Rules
@@ -17,12 +17,6 @@ pub mod Lawful
 pub mod Format
 pub mod Gates
 pub mod Books
-pub mod ZoneParts
-pub mod Slots
-pub mod Met
-pub mod Counted
-pub mod Surveys
-pub mod Marks
 pub mod Counts
 pub mod Room
 pub mod Same

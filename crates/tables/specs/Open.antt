@@ -1,15 +1,15 @@
 -- "An open zone has type 0, or type 3-8 with every block free."
-use mathlib.Core.Bool.{Bool, true, false, _&&_, _||_}
-use Prim.Native.Nat.{ℕ, _+_, _-_, _/_}
+use mathlib.Core.Bool.{Bool, _&&_, _||_}
+use Prim.Native.Nat.{ℕ, _+_, _-_}
 use lib.Dec.{eqb, leb}
 use Rattle.field.specs.Sum.{sumTo}
 use Rattle.tables.specs.declared.zone.ZoneEntry.{ZoneEntry}
-use Rattle.tables.specs.Blocks.{blockOf}
+use Rattle.tables.specs.Blocks.{perZone}
 use Rattle.tables.specs.Views.{View, onlyIf}
 
 -- a zone that reads so
 unfoldable pub isOpen : ZoneEntry → Bool
-isOpen e = eqb (e .ztype) 0 || (leb 3 (e .ztype) && (leb (e .ztype) 8 && eqb (e .free) (1024 / blockOf (e .ztype))))
+isOpen e = eqb (e .ztype) 0 || (leb 3 (e .ztype) && (leb (e .ztype) 8 && eqb (e .free) (perZone (e .ztype))))
 
 -- how many of zones 2 to Z - 1 are open
 unfoldable pub openZones : View → ℕ

@@ -16,7 +16,7 @@ placesOf b = record {
 }
 
 -- the tables that the places name stand within books of len bytes: Z zone entries, a bit for each of 1024 Z sectors, N index tables,
--- behind sectors 0 and 1 and one behind the other, in sizes that are allowed
+-- after sectors 0 and 1 and one after the other, in sizes that are allowed
 pub record Layout (p : Places) (len : ℕ) : Type 0 where
   pub least : 3 ≤ p .zones
   pub most : p .zones ≤ 256

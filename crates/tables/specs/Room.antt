@@ -3,15 +3,15 @@
 -- of the type, 3 to 8.
 use mathlib.Core.Path.{_≡_}
 use mathlib.Core.Bool.{Bool, true, cond}
-use Prim.Native.Nat.{ℕ, _+_, _-_, _*_, _/_, _≤_, _<_}
+use Prim.Native.Nat.{ℕ, _+_, _-_, _*_, _≤_, _<_}
 use mathlib.Core.List.{List}
 use lib.Dec.{eqb}
 use lib.ListN.{getD}
 use Rattle.field.specs.Sum.{sumTo}
 use Rattle.tables.specs.declared.zone.ZoneEntry.{ZoneEntry}
 use Rattle.tables.specs.Kinds.{firstOf}
-use Rattle.tables.specs.Blocks.{Typed, blockOf}
-use Rattle.tables.specs.Findings.{Each}
+use Rattle.tables.specs.Blocks.{Typed, typeAt, blockOf, perZone}
+use Rattle.tables.specs.Each.{Each}
 use Rattle.tables.specs.Views.{View, onlyIf}
 use Rattle.tables.specs.Open.{isOpen, openZones}
 use Rattle.tables.specs.Rules.R1.{ceil}
@@ -19,10 +19,6 @@ use Rattle.tables.specs.Rules.R1.{ceil}
 -- the count for type t in a list of the six, H to C
 abbrev pub countAt : List ℕ → ℕ → ℕ
 countAt counts t = getD counts (8 - t) 0
-
--- the blocks of a zone of type t
-abbrev pub perZone : ℕ → ℕ
-perZone t = 1024 / blockOf t
 
 -- ---- the choice
 
@@ -68,4 +64,4 @@ lackOf v t n = ceil (n - spareOf v t) (perZone t)
 
 -- the open zones are enough for what all six types lack
 abbrev pub Enough : View → (ℕ → ℕ) → Type 0
-Enough v c = sumTo 6 (λ i. lackOf v (i + 3) (c (i + 3))) ≤ openZones v
+Enough v c = sumTo 6 (λ k. lackOf v (typeAt k) (c (typeAt k))) ≤ openZones v

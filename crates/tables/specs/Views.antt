@@ -2,7 +2,7 @@
 -- Rules are stated over this view, so that what a request changes is a change of functions at a few places.
 -- Zones are numbered 1 to Z, sectors 0 to 1024 Z - 1, index tables 1 to N; what the functions say of other numbers means nothing.
 use mathlib.Core.Path.{_≡_}
-use mathlib.Core.Bool.{Bool, true, false, cond}
+use mathlib.Core.Bool.{Bool, cond}
 use Prim.Native.Nat.{ℕ, zero, suc, _+_, _≤_, _<_}
 use mathlib.Core.List.{List}
 use lib.Dec.{leb, ltb}

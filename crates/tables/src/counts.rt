@@ -47,7 +47,7 @@ pub fn chosen_types(flag: i32) -> Chosen
 }
 
 // The weight of type t in a flag byte.
-fn weight(t: u32) -> u32
+fn type_weight(t: u32) -> u32
     requires { ⌜ Typed t ⌝ }
     ensures { λ r. ⌜ (r ≡ weightOf t) × (0 < r) ⌝ }
 {
@@ -67,7 +67,7 @@ fn share_of(flag: u32, t: u32, rest: u32) -> Share
     requires { ⌜ Typed t × (rest ≤ 2147483647) ⌝ }
     ensures { λ r. ⌜ Shared flag t rest (r .count) (r .rest) ⌝ }
 {
-    let w = weight(t);
+    let w = type_weight(t);
     if flag / w % 2 != 1 {
         return Share { count: 0, rest };
     }

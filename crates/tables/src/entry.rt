@@ -24,11 +24,8 @@ pub enum Kind {
 }
 
 pub struct Entry {
-    pub number: Index,
     pub kind: Kind,
-    pub length: u32,
     pub attribute: u32,
-    pub link: Index,
 }
 
 fn size_of(attribute: u32) -> Size
@@ -40,17 +37,17 @@ fn size_of(attribute: u32) -> Size
     Size::Fixed
 }
 
-fn kind_of(i: u32, word: u32, parent: Index, attribute: u32) -> Kind
-    requires { ⌜ (1 ≤ i) × (i ≤ 4096) ⌝ }
-    ensures { λ r. ⌜ r ≡ kindOf i word (parent .0) attribute ⌝ }
+fn kind_of(i: Index, word: u32, parent: Index, attribute: u32) -> Kind
+    requires { ⌜ (1 ≤ i .0) × (i .0 ≤ 4096) ⌝ }
+    ensures { λ r. ⌜ r ≡ kindOf (i .0) word (parent .0) attribute ⌝ }
 {
     if word == 0 {
         return Kind::Free;
     }
-    if word == i {
+    if word == i.0 {
         return Kind::Parent(size_of(attribute));
     }
-    if word == 4294967295 - (i - 1) {
+    if word == index::minus(i) {
         return Kind::Child(parent);
     }
     Kind::Broken
@@ -64,11 +61,8 @@ fn entry_of(i: Index, t: &[u8]) -> Entry
 {
     let attribute = index::attribute(t);
     Entry {
-        number: i,
-        kind: kind_of(i.0, index::first_word(t), index::parent(t), attribute),
-        length: index::byte_length(t),
+        kind: kind_of(i, index::first_word(t), index::parent(t), attribute),
         attribute,
-        link: index::link(t),
     }
 }
 

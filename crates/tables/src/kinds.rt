@@ -3,6 +3,9 @@ ghost use mathlib.Core.Path.{_≡_};
 ghost use Prim.Native.Nat.{_≤_};
 ghost use Rattle.tables.specs.Kinds.{zoneOf, firstOf};
 
+// The sectors of a zone.
+pub const ZONE: u32 = 1024;
+
 // A sector of the volume, from 0 on.
 pub struct Sector(pub u32);
 
@@ -16,7 +19,7 @@ pub struct Index(pub u32);
 pub fn zone_of(s: Sector) -> Zone
     ensures { λ r. ⌜ r .0 ≡ zoneOf (s .0) ⌝ }
 {
-    Zone(s.0 / 1024 + 1)
+    Zone(s.0 / ZONE + 1)
 }
 
 // A zone's first sector.
@@ -24,5 +27,5 @@ pub fn first_sector(z: Zone) -> Sector
     requires { ⌜ (1 ≤ z .0) × (z .0 ≤ 256) ⌝ }
     ensures { λ r. ⌜ r .0 ≡ firstOf (z .0) ⌝ }
 {
-    Sector(1024 * (z.0 - 1))
+    Sector(ZONE * (z.0 - 1))
 }

@@ -5,6 +5,9 @@ ghost use lib.ListN.{length};
 ghost use Rattle.field.specs.Says.{Says};
 ghost use Rattle.tables.specs.Names.{Name, NewName, Text, NewText};
 
+// The bytes of a name at most, and of its field.
+pub const NAME: usize = 24;
+
 // How many bytes stand before the field's first null, its length where there is none.
 pub fn text_length(f: &[u8]) -> usize
     ensures { λ r. ⌜ Text (now (f .entry)) r ⌝ }
@@ -28,7 +31,7 @@ pub fn name_valid(f: &[u8]) -> bool
     if n == 0 {
         return false;
     }
-    bytes_all(f, n, 24 - n, 0)
+    bytes_all(f, n, NAME - n, 0)
 }
 
 // Is no byte null, '*' or '?'?
@@ -59,7 +62,7 @@ pub fn new_name_valid(n: &[u8]) -> bool
     if n.len() < 1 {
         return false;
     }
-    if n.len() > 24 {
+    if n.len() > NAME {
         return false;
     }
     text_allowed(n)

@@ -1,4 +1,6 @@
 // Open zones: those that any type may take.
+use crate::blocks::HIGHEST;
+use crate::blocks::LOWEST;
 use crate::blocks::zone_blocks;
 use crate::kinds::Zone;
 use crate::places::Places;
@@ -18,10 +20,10 @@ pub fn is_open(e: ZoneEntry) -> bool
     if t == 0 {
         return true;
     }
-    if t < 3 {
+    if t < LOWEST {
         return false;
     }
-    if t > 8 {
+    if t > HIGHEST {
         return false;
     }
     e.free == zone_blocks(t)

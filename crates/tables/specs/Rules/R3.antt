@@ -1,16 +1,20 @@
 -- R3 "In zones of type 3-8 each block is wholly set or wholly clear, and the free count is the number of clear blocks."
 use mathlib.Core.Path.{_≡_}
-use Prim.Native.Nat.{ℕ, _+_, _-_, _*_, _/_, _≤_, _<_}
+use Prim.Native.Nat.{ℕ, _+_, _-_, _*_, _/_}
 use Rattle.field.specs.Sum.{sumTo}
 use Rattle.tables.specs.Kinds.{firstOf}
 use Rattle.tables.specs.Blocks.{Typed, blockOf, Whole}
-use Rattle.tables.specs.Findings.{Each}
+use Rattle.tables.specs.Each.{Each}
 use Rattle.tables.specs.Views.{View}
+
+-- "the number of clear blocks": of the blocks of `size` sectors from `from` on, by their first sectors' bits
+abbrev pub clearBlocks : (ℕ → ℕ) → ℕ → ℕ → ℕ
+clearBlocks bit from size = sumTo (1024 / size) (λ k. 1 - bit (from + k * size))
 
 -- a zone that starts at sector `from`, with blocks of `size` sectors of which `free` are clear
 pub record Blocks (bit : ℕ → ℕ) (from size free : ℕ) : Type 0 where
   pub whole : Whole bit from size
-  pub number : sumTo (1024 / size) (λ k. 1 - bit (from + k * size)) ≡ free
+  pub number : clearBlocks bit from size ≡ free
 
 -- zone z, if it is of type 3-8
 abbrev pub BlockLaw : View → ℕ → Type 0

@@ -5,7 +5,7 @@ use mathlib.Core.Logic.{_⊎_}
 use Prim.Native.Nat.{ℕ, _+_, _<_}
 use Rattle.field.specs.Parts.{AllBytes}
 use Rattle.tables.specs.Indexes.{wordOf, minus}
-use Rattle.tables.specs.Findings.{Each}
+use Rattle.tables.specs.Each.{Each}
 use Rattle.tables.specs.Views.{View, Free, walk, next}
 
 -- the chain from sector 1's first free index has m members, all free, and every free index is among them;

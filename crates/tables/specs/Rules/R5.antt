@@ -9,7 +9,7 @@ use Rattle.tables.specs.Views.{View, Parent, Child, walk, next}
 abbrev pub Full : View → ℕ → Type 0
 Full v i = (j : ℕ) → j < slotsOf i (v .table i) → Used i (v .table i) j
 
--- parent p has m children: the chain ends behind them, holds only children that name p, and each table before the last is full
+-- parent p has m children: the chain ends after them, holds only children that name p, and each table before the last is full
 pub record FileChain (v : View) (p m : ℕ) : Type 0 where
   pub ends : walk (next v) p (suc m) ≡ 0
   pub each : (k : ℕ) → k < m → Child v (walk (next v) p (suc k))

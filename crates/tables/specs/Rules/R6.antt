@@ -7,7 +7,7 @@ use Rattle.field.specs.Parts.{AllBytes}
 use Rattle.tables.specs.Kinds.{zoneOf, firstOf}
 use Rattle.tables.specs.Blocks.{Typed, blockOf, Whole}
 use Rattle.tables.specs.Indexes.{wordOf, slotsOf, startOf, countOf, Used}
-use Rattle.tables.specs.Findings.{Each}
+use Rattle.tables.specs.Each.{Each}
 use Rattle.tables.specs.Views.{View, cov}
 
 -- the c sectors from a on: a lawful run

@@ -1,14 +1,14 @@
 -- R8 "Names are 1 to 24 non-null bytes, then nulls. Byte length is at most 1,024 × the file's sectors, at least 0, and at least 1 if fixed.
 -- A variable file has one zone type. No other attribute weight; not both 32 and 64. Both dates valid."
 use mathlib.Core.Path.{_≡_}
-use Prim.Native.Nat.{ℕ, _+_, _*_, _/_, _%_, _≤_, _<_}
+use Prim.Native.Nat.{ℕ, _+_, _*_, _≤_, _<_}
 use mathlib.Core.List.{List}
 use lib.Dec.{eqb}
 use Rattle.tables.specs.Kinds.{zoneOf}
 use Rattle.tables.specs.Dates.{Date}
 use Rattle.tables.specs.Names.{Name}
-use Rattle.tables.specs.Findings.{Each}
-use Rattle.tables.specs.Indexes.{wordOf, nameOf, createdOf, changedOf, lengthOf, attributeOf, startOf, sectorsOf, fileOf}
+use Rattle.tables.specs.Each.{Each}
+use Rattle.tables.specs.Indexes.{wordOf, nameOf, createdOf, changedOf, lengthOf, attributeOf, variableBit, directoryBit, systemBit, startOf, sectorsOf, fileOf}
 use Rattle.tables.specs.Views.{View, onlyIf, tally, Under}
 
 -- the file's sectors: those under the pointers of its tables
@@ -22,16 +22,6 @@ fileType v p = v .zone (zoneOf (startOf p (v .table p) 0)) .ztype
 -- every sector of the file lies in a zone of that type
 abbrev pub OneType : View → ℕ → Type 0
 OneType v p = (i j s : ℕ) → fileOf i (v .table i) ≡ p → Under v i j s → v .zone (zoneOf s) .ztype ≡ fileType v p
-
--- attribute weights 16 (variable size), 32 (directory file) and 64 (system file)
-abbrev pub variableBit : ℕ → ℕ
-variableBit a = a / 16 % 2
-
-abbrev pub directoryBit : ℕ → ℕ
-directoryBit a = a / 32 % 2
-
-abbrev pub systemBit : ℕ → ℕ
-systemBit a = a / 64 % 2
 
 -- parent p, whose bytes are t; a length below 0 is read as 2147483648 or more
 pub record File (v : View) (p : ℕ) (t : List ℕ) : Type 0 where

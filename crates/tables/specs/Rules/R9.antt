@@ -1,15 +1,10 @@
 -- R9 "Sector 1's counts are true; system and directory counts take active files only. The flag is 0 or 1."
 use mathlib.Core.Path.{_≡_}
-use Prim.Native.Nat.{ℕ, _-_, _%_, _≤_}
+use Prim.Native.Nat.{ℕ, _-_, _≤_}
 use mathlib.Core.List.{List}
 use lib.Dec.{eqb}
-use Rattle.tables.specs.Indexes.{wordOf, attributeOf}
+use Rattle.tables.specs.Indexes.{wordOf, attributeOf, deletedBit, directoryBit, systemBit}
 use Rattle.tables.specs.Views.{View, onlyIf, tally}
-use Rattle.tables.specs.Rules.R8.{directoryBit, systemBit}
-
--- attribute weight 1 (temporarily deleted)
-abbrev pub deletedBit : ℕ → ℕ
-deletedBit a = a % 2
 
 -- what index i, whose bytes are t, adds to each count: 1 or 0
 unfoldable pub freeOne : ℕ → List ℕ → ℕ

@@ -1,5 +1,5 @@
 use Rattle.allocation.specs.Choice.{begun}
-use Rattle.allocation.proofs.SearchLaws.{search-hit, search-more, search-end}
+use Rattle.allocation.proofs.FindLaws.{search-hit, search-more, search-end}
 use Rattle.allocation.proofs.NextBlockLaws.{begun-yes, begun-no}
 use Rattle.tables.specs.Views.{viewOf}
 use native.Mathlib.Omega.{arith}

@@ -1,4 +1,4 @@
-use Rattle.allocation.specs.Choice.{sectorOf}
+use Rattle.allocation.specs.Choice.{blockStart}
 use Rattle.allocation.proofs.NextBlockLaws.{block-inside}
 use native.Mathlib.Omega.{arith}
 use Prim.Native.Nat.{_+_, _*_, _≤_}
@@ -16,7 +16,7 @@ add-t6 : tie.Need-add-t6
 add-t6 c = omega (arith, inside (c .before .before))
 
 returns : tie.Need-returns
-unfolding sectorOf
+unfolding blockStart
 returns c = cc
 
 pub block-start-spec : {M : Type 1} → statement M

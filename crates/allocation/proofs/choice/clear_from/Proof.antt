@@ -1,4 +1,4 @@
-use Rattle.allocation.proofs.SearchLaws.{search-hit, search-end}
+use Rattle.allocation.proofs.FindLaws.{search-hit, search-end}
 use Rattle.allocation.proofs.NextBlockLaws.{clear-yes, clear-none, clear-more, block-inside}
 use Rattle.tables.specs.Sectors.{sectorAt}
 use Rattle.tables.specs.Views.{viewOf}

@@ -1,5 +1,5 @@
 use Rattle.allocation.specs.Choice.{lowestOpen}
-use Rattle.allocation.proofs.SearchLaws.{search-hit, search-more, search-end}
+use Rattle.allocation.proofs.FindLaws.{search-hit, search-more, search-end}
 use Rattle.tables.specs.Open.{isOpen}
 use Rattle.tables.specs.Zones.{zoneAt}
 use native.Mathlib.Omega.{arith}

@@ -1,14 +1,14 @@
-use Rattle.allocation.proofs.ReadyLaws.{Adding, adding-none, adding-typed, adding-laying, adding-more, adding-end}
+use Rattle.allocation.proofs.GrowthLaws.{Adding, adding-layout, adding-none, adding-typed, adding-laying, adding-more, adding-end}
 use Prim.Native.Nat.{_-_}
 use borrow.Author.Needs.{needs}
 use Rattle.allocation.proofs.growth.add_some.Statement.{statement}
 use Rattle.allocation.proofs.growth.add_some.Tie as tie
 
 abbrev Inv-loop : tie.InvT-loop
-Inv-loop b₀ p f t n cursor₀ last₀ i₀ b cursor last i = Adding p (f .0) t n (record { books = b₀; cursor = cursor₀ }) (record { books = b; cursor = cursor }) last i
+Inv-loop b₀ p f t n write cursor₀ last₀ i₀ b cursor last i = Adding write p (f .0) t n (record { books = b₀; cursor = cursor₀ }) (record { books = b; cursor = cursor }) last i
 
 abbrev μ-loop : tie.MeasureT-loop
-μ-loop b₀ p f t n cursor₀ last₀ i₀ b cursor last i = n - i
+μ-loop b₀ p f t n write cursor₀ last₀ i₀ b cursor last i = n - i
 
 pub add-some-spec : {M : Type 1} → statement M
 add-some-spec =
@@ -17,7 +17,7 @@ add-some-spec =
     Inv-loop
     μ-loop
     (λ c. search adding-none)
-    (λ c κs. (search needs, (search adding-typed, search needs)))
+    (λ c κs. (search adding-layout, (search adding-typed, search needs)))
     (λ c κs. search adding-laying)
     (λ c. search needs)
     (λ c. search needs)

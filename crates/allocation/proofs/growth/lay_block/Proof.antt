@@ -1,14 +1,14 @@
 use Rattle.allocation.proofs.PlanLaws.{sectors-few}
-use Rattle.allocation.proofs.ReadyLaws.{lay-layout, lay-head, lay-at, lay-count, lay-end}
+use Rattle.allocation.proofs.ReadyLaws.{lay-layout, lay-head, lay-in-table, lay-end}
 use borrow.Author.Needs.{needs}
 use Rattle.allocation.proofs.growth.lay_block.Statement.{statement}
 use Rattle.allocation.proofs.growth.lay_block.Tie as tie
 
 push-block-requires : tie.Need-push-block-requires
-push-block-requires c κs = (search needs, search needs, search needs, search sectors-few)
+push-block-requires c κs = (search needs, search needs, search sectors-few)
 
 point-requires : tie.Need-point-requires
-point-requires c κs = (search lay-layout, (search lay-head, (search needs, search needs, search lay-at, search lay-count)))
+point-requires c κs = (search lay-layout, (search lay-head, (search lay-in-table, search needs)))
 
 pub lay-block-spec : {M : Type 1} → statement M
 lay-block-spec =

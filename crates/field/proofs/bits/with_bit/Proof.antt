@@ -1,8 +1,8 @@
-use mathlib.Core.Path.{_≡_, ap₂, sym, _∙_}
-use Prim.Native.Nat.{ℕ, _+_, _*_, _^_, _≤_}
+use mathlib.Core.Path.{_≡_}
+use Prim.Native.Nat.{_+_, _*_, _≤_}
 use native.Mathlib.Omega.{arith}
 use borrow.Author.Needs.{needs}
-use Rattle.field.specs.Bits.{bitOf, withBit}
+use Rattle.field.specs.Bits.{withBit}
 use Rattle.field.proofs.BitLaws.{with-lt, with-sum, bit-part, bit-weight}
 use Rattle.field.proofs.bits.with_bit.Statement.{statement}
 use Rattle.field.proofs.bits.with_bit.Tie as tie

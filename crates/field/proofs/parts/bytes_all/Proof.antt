@@ -1,8 +1,7 @@
 use Rattle.field.proofs.PartLaws.{all-behind, all-within}
 use Rattle.field.proofs.Tests.{passed, refused}
 use Rattle.field.specs.Parts.{AllBytes}
-use native.Mathlib.Omega.{arith}
-use Prim.Native.Nat.{_+_, _≤_, _-_}
+use Prim.Native.Nat.{_≤_, _-_}
 use borrow.Author.Needs.{needs}
 use Rattle.field.proofs.parts.bytes_all.Statement.{statement}
 use Rattle.field.proofs.parts.bytes_all.Tie as tie

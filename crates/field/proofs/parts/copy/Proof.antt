@@ -2,9 +2,8 @@ use lib.ListN.{length-set}
 use Rattle.field.proofs.PartLaws.{copy-more, copy-end}
 use lib.Seq.{paste, paste-zero}
 use lib.ListN.{length}
-use native.Mathlib.Omega.{arith}
-use Prim.Native.Nat.{ℕ, _≤_, _-_}
-use mathlib.Core.Path.{_≡_, refl, _∙_}
+use Prim.Native.Nat.{_≤_, _-_}
+use mathlib.Core.Path.{_≡_, refl}
 use borrow.Author.Needs.{needs}
 use Rattle.field.proofs.parts.copy.Statement.{statement}
 use Rattle.field.proofs.parts.copy.Tie as tie

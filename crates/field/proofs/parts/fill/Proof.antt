@@ -2,9 +2,8 @@ use lib.ListN.{length-set}
 use Rattle.field.proofs.PartLaws.{fill-again, fill-end}
 use lib.Seq.{paste, paste-zero}
 use lib.ListN.{length, replicate}
-use native.Mathlib.Omega.{arith}
-use Prim.Native.Nat.{ℕ, _≤_, _-_}
-use mathlib.Core.Path.{_≡_, refl, _∙_}
+use Prim.Native.Nat.{_≤_, _-_}
+use mathlib.Core.Path.{_≡_, refl}
 use borrow.Author.Needs.{needs}
 use Rattle.field.proofs.parts.fill.Statement.{statement}
 use Rattle.field.proofs.parts.fill.Tie as tie

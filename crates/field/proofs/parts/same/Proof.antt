@@ -2,7 +2,7 @@ use Rattle.field.proofs.PartLaws.{same-at, same-all}
 use lib.ListN.{length, getD}
 use borrow.Author.Count.{below-more}
 use Prim.Native.Nat.{ℕ, _+_, _≤_, _<_, _-_}
-use mathlib.Core.Path.{_≡_, _∙_}
+use mathlib.Core.Path.{_≡_}
 use borrow.Author.Needs.{needs}
 use Rattle.field.proofs.parts.same.Statement.{statement}
 use Rattle.field.proofs.parts.same.Tie as tie

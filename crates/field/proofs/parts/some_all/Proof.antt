@@ -1,5 +1,5 @@
 use Prim.Native.Nat.{ℕ, _*_}
-use mathlib.Core.Path.{_≡_, refl, sym, _∙_, ap}
+use mathlib.Core.Path.{refl, sym, _∙_, ap}
 use Rattle.field.proofs.PartLaws.{one-says, first-four, both-fours}
 use mathlib.Core.Logic.{⊎-elim}
 use native.Mathlib.Omega.{arith}

@@ -2,7 +2,7 @@ use Rattle.field.proofs.RunLaws.{set-next}
 use Rattle.field.specs.Runs.{setBits}
 use lib.ListN.{length}
 use native.Mathlib.Omega.{arith}
-use Prim.Native.Nat.{ℕ, _≤_, _-_}
+use Prim.Native.Nat.{_≤_, _-_}
 use mathlib.Core.Path.{_≡_, refl, _∙_}
 use borrow.Author.Needs.{needs}
 use Rattle.field.proofs.runs.set_bits.Statement.{statement}

@@ -1,5 +1,5 @@
-use Rattle.files.proofs.ReleaseLaws.{Clearing, clearing-none, clearing-place, clearing-room, clearing-more, clearing-end}
 use Prim.Native.Nat.{_-_}
+use Rattle.files.proofs.ReleaseLaws.{Clearing, clearing-none, clearing-place, clearing-room, clearing-more, clearing-end}
 use borrow.Author.Needs.{needs}
 use Rattle.files.proofs.release.clear_runs.Statement.{statement}
 use Rattle.files.proofs.release.clear_runs.Tie as tie
@@ -16,15 +16,11 @@ loop-holds c =
     let t = c .before .before .before .before .table .ensures .0 in
     clearing-none (s .args .p) (s .args .b .now) (s .args .i .0) _ _ _ _ (s .pre .0) (s .pre .1 .1) t (c .before .before .before .slots .ensures .0) (c .before .table2 .ensures .0) (c .base .ensures .0)
 
-set-bits-requires : tie.Need-set-bits-requires Inv-loop μ-loop
-set-bits-requires c κs =
-    let q = c .before .before .before in
-    (clearing-room _ _ _ _ _ _ _ (q .before .before .before .before .loop .inv) (q .before .before .before .loop-test .taken) _ _ (q .before .table3 .ensures .0) (q .pointer-at .ensures .0), search needs)
-
 loop-again : tie.Need-loop-again Inv-loop μ-loop
 loop-again c =
-    let q = c .before .before .before .before .before .before in
-    clearing-more _ _ _ _ _ _ _ (q .before .before .before .before .loop .inv) (q .before .before .before .loop-test .taken) _ _ (q .before .table3 .ensures .0) (q .pointer-at .ensures .0) _ (c .before .before .set-bits .ensures)
+    let q = c .before .before .before .before in
+    let l = q .before .before .before in
+    clearing-more _ _ _ _ _ _ _ (l .before .loop .inv) (l .loop-test .taken) _ _ (q .before .table3 .ensures .0) (q .pointer-at .ensures .0) _ (c .before .before .put-sectors .ensures)
 
 pub clear-runs-spec : {M : Type 1} → statement M
 clear-runs-spec =
@@ -41,9 +37,7 @@ clear-runs-spec =
     (λ c. search needs)
     (λ c. search needs)
     (λ c κs. (search needs, search clearing-place))
-    (λ c. search needs)
-    (λ c. search needs)
-    set-bits-requires
+    (λ c κs. (search needs, (search clearing-room, search needs)))
     (λ c. search needs)
     (λ c. search needs)
     loop-again

@@ -5,14 +5,13 @@ use Rattle.files.proofs.release.free_file.Tie as tie
 
 put-freed-requires : tie.Need-put-freed-requires
 put-freed-requires c κs =
-    let t = c .before .before .before .before .before .before .before .before in
+    let t = c .before .before .before .before .before .before .before in
     let l = t .before .before in
     let s = l .before .before .before .before .before .before in
-    let e = l .last-table .ensures in
     let n = t .free-tables .ensures in
     let counts =
-    file-counts (s .args .p) (s .args .b .now) (s .pre .0) (s .pre .1 .0) (s .args .f .0) (s .pre .1 .1 .0) _ _ _ _ _ _ (l .before .before .first-free .ensures)
-    (e .0) (n .0) (n .1) (n .2) (c .before .before .before .before .table-place .ensures) (c .before .before .before .put-u32 .ensures) (s .pre .1 .1 .1 .0) in
+    file-counts (s .args .p) (s .args .b .now) (s .pre .0) (s .pre .1 .0) (s .args .f .0) (s .pre .1 .1 .0) _ _ _ _ _ (l .before .before .first-free .ensures)
+    (l .last-table .ensures .0) (n .0) (n .1) (n .2) (c .before .before .before .put-link .ensures) (s .pre .1 .1 .1 .0) in
     (search needs, (counts, search needs))
 
 pub free-file-spec : {M : Type 1} → statement M
@@ -22,8 +21,6 @@ free-file-spec =
     (λ c κs. search needs)
     (λ c κs. search needs)
     (λ c κs. search needs)
-    (λ c κs. search needs)
-    (λ c. search needs)
     (λ c κs. search needs)
     put-freed-requires
     (λ c. search needs)

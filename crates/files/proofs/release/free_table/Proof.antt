@@ -5,4 +5,4 @@ use Rattle.files.proofs.release.free_table.Tie as tie
 
 pub free-table-spec : {M : Type 1} → statement M
 free-table-spec =
-    tie.close (tie.spec (λ c κs. search needs) (λ c κs. search needs) (λ c κs. search needs) (λ c. search needs) (λ c. search table-freed))
+    tie.close (tie.spec (λ c κs. search needs) (λ c κs. search needs) (λ c. search needs) (λ c. search table-freed))

@@ -1,4 +1,5 @@
-use Rattle.requests.proofs.CreateLaws.{argument-good, create-stops}
+use Rattle.requests.proofs.CreateLaws.{create-stops}
+use Rattle.requests.proofs.ArgumentLaws.{argument-good}
 use Rattle.requests.proofs.FixedLaws.{variable-typed, variable-new, variable-ends}
 use borrow.Author.Needs.{needs}
 use Rattle.requests.proofs.create_variable.create_variable.Statement.{statement}

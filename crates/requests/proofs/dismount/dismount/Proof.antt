@@ -1,4 +1,5 @@
-use Rattle.requests.proofs.MountLaws.{dismount-stops, use-room, dismount-ends}
+use Rattle.requests.proofs.MountLaws.{dismount-stops, dismount-ends}
+use Rattle.requests.proofs.JudgedLaws.{use-room}
 use borrow.Author.Needs.{needs}
 use Rattle.requests.proofs.dismount.dismount.Statement.{statement}
 use Rattle.requests.proofs.dismount.dismount.Tie as tie

@@ -1,4 +1,4 @@
-use Rattle.requests.proofs.CreateLaws.{argued-good, argument-room}
+use Rattle.requests.proofs.ArgumentLaws.{argued-good, argument-room}
 use Rattle.requests.proofs.GrowLaws.{grow-stops, grow-goes}
 use borrow.Author.Needs.{needs}
 use Rattle.requests.proofs.grow.grow_number.Statement.{statement}

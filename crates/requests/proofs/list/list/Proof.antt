@@ -1,6 +1,6 @@
 use Rattle.requests.proofs.ListLaws.{list-refused, list-done}
-use Rattle.requests.proofs.SearchLaws.{argument-layout}
-use Rattle.requests.proofs.CreateLaws.{argument-room}
+use Rattle.requests.proofs.SearchRequestLaws.{argument-layout}
+use Rattle.requests.proofs.ArgumentLaws.{argument-room}
 use borrow.Author.Needs.{needs}
 use Rattle.requests.proofs.list.list.Statement.{statement}
 use Rattle.requests.proofs.list.list.Tie as tie

@@ -1,5 +1,6 @@
-use Rattle.requests.proofs.CreateLaws.{argument-room, argued-good}
-use Rattle.requests.proofs.ReadLaws.{body-parent, read-stops, read-unusable, read-past, read-fine}
+use Rattle.requests.proofs.ArgumentLaws.{argued-good, argument-room}
+use Rattle.requests.proofs.ReadLaws.{read-stops, read-unusable, read-past, read-fine}
+use Rattle.requests.proofs.NamedLaws.{body-parent}
 use borrow.Author.Needs.{needs}
 use Rattle.requests.proofs.read.read_number.Statement.{statement}
 use Rattle.requests.proofs.read.read_number.Tie as tie

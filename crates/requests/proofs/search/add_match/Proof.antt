@@ -1,5 +1,5 @@
 use native.Mathlib.Omega.{arith}
-use Rattle.requests.proofs.SearchLaws.{match-none, match-beyond, match-here}
+use Rattle.requests.proofs.SearchRequestLaws.{match-none, match-beyond, match-here}
 use borrow.Author.Needs.{needs}
 use Rattle.requests.proofs.search.add_match.Statement.{statement}
 use Rattle.requests.proofs.search.add_match.Tie as tie

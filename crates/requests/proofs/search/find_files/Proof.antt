@@ -1,6 +1,6 @@
 use native.Mathlib.Omega.{arith}
 use Prim.Native.Nat.{_+_, _-_, _≤_}
-use Rattle.requests.proofs.SearchLaws.{Sought, sought-none, sought-more, sought-all}
+use Rattle.requests.proofs.SearchRequestLaws.{Sought, sought-none, sought-more, sought-all}
 use Rattle.requests.specs.Search.{isMatch}
 use Rattle.tables.specs.Views.{viewOf}
 use borrow.Author.Needs.{needs}

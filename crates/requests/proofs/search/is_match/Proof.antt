@@ -1,4 +1,4 @@
-use Rattle.requests.proofs.SearchLaws.{match-not, match-says}
+use Rattle.requests.proofs.SearchRequestLaws.{match-not, match-says}
 use borrow.Author.Needs.{needs}
 use Rattle.requests.proofs.search.is_match.Statement.{statement}
 use Rattle.requests.proofs.search.is_match.Tie as tie

@@ -1,4 +1,4 @@
-use Rattle.requests.proofs.SearchLaws.{pattern-says}
+use Rattle.requests.proofs.SearchRequestLaws.{pattern-says}
 use borrow.Author.Needs.{needs}
 use Rattle.requests.proofs.search.pattern_allowed.Statement.{statement}
 use Rattle.requests.proofs.search.pattern_allowed.Tie as tie

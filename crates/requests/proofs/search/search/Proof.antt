@@ -1,5 +1,5 @@
-use Rattle.requests.proofs.SearchLaws.{argument-layout, search-refused, search-done}
-use Rattle.requests.proofs.CreateLaws.{argument-room}
+use Rattle.requests.proofs.SearchRequestLaws.{argument-layout, search-refused, search-done}
+use Rattle.requests.proofs.ArgumentLaws.{argument-room}
 use borrow.Author.Needs.{needs}
 use Rattle.requests.proofs.search.search.Statement.{statement}
 use Rattle.requests.proofs.search.search.Tie as tie

@@ -1,4 +1,4 @@
-use Rattle.requests.proofs.SearchLaws.{text-fits, text-says}
+use Rattle.requests.proofs.SearchRequestLaws.{text-fits, text-says}
 use borrow.Author.Needs.{needs}
 use Rattle.requests.proofs.search.text_matches.Statement.{statement}
 use Rattle.requests.proofs.search.text_matches.Tie as tie

@@ -1,16 +1,7 @@
-use Rattle.requests.proofs.StateLaws.{protect-stops, protect-goes}
-use Rattle.requests.proofs.CreateLaws.{argument-room, argued-good}
+use Rattle.requests.proofs.StateLaws.{protect-asked}
 use borrow.Author.Needs.{needs}
 use Rattle.requests.proofs.set_protection.protect_number.Statement.{statement}
 use Rattle.requests.proofs.set_protection.protect_number.Tie as tie
 
 pub protect-number-spec : {M : Type 1} → statement M
-protect-number-spec =
-    tie.close
-    (tie.spec
-    (λ c κs. search needs)
-    (λ c κs. search needs)
-    (λ c. search protect-stops)
-    (λ c κs. search argument-room)
-    (λ c κs. search argued-good)
-    (λ c. search protect-goes))
+protect-number-spec = tie.close (tie.spec (λ c κs. search needs) (λ c κs. search needs) (λ c. search protect-asked))

@@ -1,5 +1,5 @@
 use Rattle.requests.specs.Show.{showTests}
-use Rattle.requests.proofs.MountLaws.{use-good, use-room, use-layout}
+use Rattle.requests.proofs.JudgedLaws.{use-good, use-room, use-layout}
 use Rattle.requests.proofs.LocateLaws.{sector-stops, sector-refused, sector-past, sector-fine}
 use native.Mathlib.Omega.{arith}
 use borrow.Author.Needs.{needs}

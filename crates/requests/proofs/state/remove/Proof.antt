@@ -3,8 +3,8 @@ use borrow.Author.Needs.{needs}
 use Rattle.requests.proofs.state.remove.Statement.{statement}
 use Rattle.requests.proofs.state.remove.Tie as tie
 
-put-attribute-requires : tie.Need-put-attribute-requires
-put-attribute-requires c κs = (search needs, (search needs, search needs, search remove-fits, search needs))
+put-state-requires : tie.Need-put-state-requires
+put-state-requires c κs = (search needs, (search needs, search needs, search remove-fits, search needs))
 
 pub remove-spec : {M : Type 1} → statement M
 remove-spec =
@@ -22,6 +22,6 @@ remove-spec =
     (λ c. search remove-directory)
     (λ c κs. search needs)
     (λ c. search needs)
-    put-attribute-requires
+    put-state-requires
     (λ c. search needs)
     (λ c. search remove-is))

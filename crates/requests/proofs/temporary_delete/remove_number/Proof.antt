@@ -1,5 +1,5 @@
 use Rattle.requests.proofs.StateLaws.{remove-stops, remove-goes}
-use Rattle.requests.proofs.CreateLaws.{argument-room, argued-good}
+use Rattle.requests.proofs.ArgumentLaws.{argued-good, argument-room}
 use native.Mathlib.Omega.{arith}
 use borrow.Author.Needs.{needs}
 use Rattle.requests.proofs.temporary_delete.remove_number.Statement.{statement}

@@ -1,4 +1,4 @@
-use Rattle.requests.proofs.ReadLaws.{body-parent}
+use Rattle.requests.proofs.NamedLaws.{body-parent}
 use Rattle.requests.proofs.WriteLaws.{move-unusable, move-past, move-lack}
 use borrow.Author.Needs.{needs}
 use Rattle.requests.proofs.write.move_number.Statement.{statement}

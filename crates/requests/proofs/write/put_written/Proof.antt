@@ -1,4 +1,4 @@
-use Rattle.requests.proofs.GrowLaws.{lengthen-good, lengthen-parent}
+use Rattle.requests.proofs.LongerLaws.{lengthen-good, lengthen-parent}
 use Rattle.requests.proofs.WriteLaws.{written-room, written-layout, written-low, written-high, written-is}
 use borrow.Author.Needs.{needs}
 use Rattle.requests.proofs.write.put_written.Statement.{statement}

@@ -1,4 +1,4 @@
-use Rattle.requests.proofs.CreateLaws.{argument-room, argued-good}
+use Rattle.requests.proofs.ArgumentLaws.{argued-good, argument-room}
 use Rattle.requests.proofs.WriteLaws.{write-stops, write-early, write-short, write-goes}
 use borrow.Author.Needs.{needs}
 use Rattle.requests.proofs.write.write_number.Statement.{statement}

@@ -1,6 +1,5 @@
 use Rattle.tables.specs.Entries.{sizeOf}
 use borrow.Author.Tests.{eq-eqb, ne-eqb}
-use borrow.Author.Needs.{needs}
 use Rattle.tables.proofs.entry.size_of.Statement.{statement}
 use Rattle.tables.proofs.entry.size_of.Tie as tie
 

@@ -1,10 +1,10 @@
-use Rattle.tables.specs.Format.{putSystem}
+use Rattle.tables.specs.Format.{putSystemZones}
 use borrow.Author.Needs.{needs}
 use Rattle.tables.proofs.format.write_system.Statement.{statement}
 use Rattle.tables.proofs.format.write_system.Tie as tie
 
 returns : tie.Need-returns
-unfolding putSystem
+unfolding putSystemZones
 returns c = cc
 
 pub write-system-spec : {M : Type 1} → statement M

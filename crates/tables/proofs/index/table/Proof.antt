@@ -1,6 +1,6 @@
 use Rattle.tables.proofs.IndexLaws.{length-table}
 use native.Mathlib.Omega.{arith}
-use Prim.Native.Nat.{ℕ, _+_, _-_, _*_}
+use Prim.Native.Nat.{_+_, _-_, _*_}
 use mathlib.Core.Path.{_≡_, refl}
 use Rattle.tables.specs.Indexes.{tableAt}
 use borrow.Author.Needs.{needs}

@@ -1,0 +1,13 @@
+pub mod FindingLaws
+pub mod CheckLaws
+pub mod ZonePartLaws
+pub mod SlotLaws
+pub mod MetLaws
+pub mod FreeLaws
+pub mod ChildLaws
+pub mod WholeLaws
+pub mod ZoneLaws
+pub mod CountedLaws
+pub mod SurveyLaws
+pub mod PieceLaws
+pub mod MarkLaws

@@ -1,0 +1,276 @@
+-- Marks that are added run by run, table by table, and what they say of R7.
+use mathlib.Core.Path.{_≡_, refl, sym, ap, ap₂, _∙_}
+use mathlib.Core.Logic.{_⊎_, inl, inr, ⊎-elim}
+use mathlib.Core.Bool.{Bool, true, false, not}
+use mathlib.Core.List.{List}
+use Prim.Native.Nat.{ℕ, zero, suc, _+_, _-_, _*_, _/_, _%_, _^_, _≤_, _<_}
+use native.Mathlib.Nat.{zero-div}
+use native.Mathlib.Decide.{decLt}
+use native.Mathlib.Omega.{arith}
+use lib.ListN.{length, getD, replicate}
+use Rattle.field.specs.Says.{Says}
+use Rattle.field.specs.Sum.{sumTo}
+use Rattle.field.specs.Numbers.{u16At, u32At}
+use Rattle.field.specs.Bits.{bitOf, bitAt}
+use Rattle.field.proofs.Tests.{says-map}
+use Rattle.field.proofs.Sums.{sum-more, sum-cut, sum-zero, sum-upto}
+use Rattle.field.proofs.NumberLaws.{u32-lt, getD-zeros}
+use Rattle.field.proofs.BitLaws.{bitAt-lt}
+use Rattle.tables.specs.declared.index.Pointer.{Pointer}
+use Rattle.tables.specs.declared.places.Places.{Places}
+use Rattle.tables.specs.Places.{Layout}
+use Rattle.tables.specs.Indexes.{tableAt, pointerAt, slotsOf, baseOf, startOf, countOf, Used}
+use Rattle.tables.specs.Views.{View, viewOf, cov, overOf, tally, pointersOver}
+use Rattle.tables.specs.Rules.R6.{R6, Shape}
+use Rattle.tables.specs.Rules.R7.{R7}
+use Rattle.examination.specs.Marks.{Piece, markAt, wordAt, MarksAdded, Adds, overFirst, overTables, TableFits, Agrees}
+use Rattle.tables.proofs.IndexLaws.{length-table}
+use Rattle.examination.proofs.PieceLaws.{bit-low, bit-high, word-same}
+use Rattle.tables.proofs.PointerLaws.{cov-before, cov-after, cov-none, cov-join}
+
+-- ---- what was marked, on each way on from it
+
+adds-true : (r : Bool) (m m' : List ℕ) (D : ℕ → ℕ) → Adds r m m' D → not r ≡ false → MarksAdded m m' D
+adds-true true m m' D a e = a
+adds-true false m m' D a e = absurd (let z : _≡_ {A = ℕ} 0 1 = cc in omega arith)
+
+adds-false : (r : Bool) (m m' : List ℕ) (D : ℕ → ℕ) → Adds r m m' D → not r ≡ true → ((n : ℕ) → markAt m n + D n ≤ 1) → ⊥
+adds-false true m m' D a e = absurd (let z : _≡_ {A = ℕ} 0 1 = cc in omega arith)
+adds-false false m m' D a e = a
+
+-- ---- a run, piece by piece
+
+pub run-none : (m : List ℕ) (from : ℕ) → MarksAdded m m (cov from 0)
+run-none m from = record { len = refl; bits = λ n. omega (arith, cov-none from n) }
+
+pub run-more : (r : Bool) (m₀ m m' : List ℕ) (from i w : ℕ) → MarksAdded m₀ m (cov from i) → Adds r m m' (cov (from + i) w) → not r ≡ false → MarksAdded m₀ m' (cov from (i + w))
+run-more r m₀ m m' from i w a q e =
+    let x = adds-true r m m' _ q e in
+    record { len = x .len ∙ a .len; bits = λ n. omega (arith, x .bits n, a .bits n, cov-join from i w n) }
+
+pub run-stop : (r : Bool) (m₀ m m' : List ℕ) (from count i w : ℕ) → MarksAdded m₀ m (cov from i) → i < count → Piece (from + i) (count - i) w → Adds r m m' (cov (from + i) w) → not r ≡ true
+    → Adds false m₀ m' (cov from count)
+run-stop r m₀ m m' from count i w a l p q e h =
+    adds-false r m m' _ q e (λ n. omega (arith, h n, a .bits n, cov-join from i (count - i) n, cov-join (from + i) w (count - i - w) n, whole n, part n))
+  where
+    whole : (n : ℕ) → cov from count n ≡ cov from (i + (count - i)) n
+    whole n = ap (λ (c : ℕ). cov from c n) (let g : count ≡ i + (count - i) = omega arith in g)
+
+    part : (n : ℕ) → cov (from + i) (count - i) n ≡ cov (from + i) (w + (count - i - w)) n
+    part n = ap (λ (c : ℕ). cov (from + i) c n) (let g : count - i ≡ w + (count - i - w) = omega (arith, p .few) in g)
+
+pub run-end : (m₀ m : List ℕ) (from count i : ℕ) → MarksAdded m₀ m (cov from i) → i ≤ count → count ≤ i → Adds true m₀ m (cov from count)
+run-end m₀ m from count i a h l = let e : i ≡ count = omega arith in rw e at a
+
+-- ---- a table, pointer by pointer
+
+pub first-none : (t : List ℕ) (base : ℕ) (m : List ℕ) → MarksAdded m m (overFirst t base 0)
+unfolding overFirst sumTo
+first-none t base m = record { len = refl; bits = λ n. omega arith }
+
+pub still-long : (i : ℕ) (t m₀ m : List ℕ) (D : ℕ → ℕ) → MarksAdded m₀ m D → TableFits i t (length m₀) → length m ≡ 4096
+still-long i t m₀ m D a f = a .len ∙ f .long
+
+module _ (t : List ℕ) (m₀ m : List ℕ) (base j : ℕ) (a : MarksAdded m₀ m (overFirst t base j)) where
+  module _ (q : Pointer) (eq : q ≡ pointerAt t (base + 6 * j)) where
+    start-is : q .start .0 ≡ u32At t (base + 6 * j)
+    start-is = ap (λ (p : Pointer). p .start .0) eq
+
+    count-is : q .count ≡ u16At t (base + 6 * j + 4)
+    count-is = ap (λ (p : Pointer). p .count) eq
+
+    pub first-more : (r : Bool) (m' : List ℕ) → Adds r m m' (cov (q .start .0) (q .count)) → not r ≡ false → MarksAdded m₀ m' (overFirst t base (j + 1))
+    unfolding overFirst
+    first-more r m' d e =
+        let x = rw (start-is, count-is) at (adds-true r m m' _ d e) in
+        record { len = x .len ∙ a .len; bits = λ n. omega (arith, x .bits n, a .bits n, sum-more j (λ j. cov (u32At t (base + 6 * j)) (u16At t (base + 6 * j + 4)) n)) }
+
+    module _ (i slots : ℕ) (eb : base ≡ baseOf i t) (es : slots ≡ slotsOf i t) (l : j < slots) where
+      pub pointer-room : TableFits i t (length m₀) → q .start .0 + q .count ≤ 262144
+      pointer-room f =
+          let h = rw (← eb) at (f .fit j (omega arith)) in
+          omega (arith, start-is, count-is)
+
+      pub first-stop : (r : Bool) (m' : List ℕ) → Adds r m m' (cov (q .start .0) (q .count)) → not r ≡ true → Adds false m₀ m' (overOf i t)
+      unfolding overFirst overOf
+      first-stop r m' d e h =
+          adds-false r m m' _ d e
+          (λ n. rw (start-is, count-is) (omega (arith, rw (← eb, ← es) at (h n), a .bits n, sum-upto slots j (λ j. cov (u32At t (base + 6 * j)) (u16At t (base + 6 * j + 4)) n) l)))
+
+      -- at a pointer with no sectors there are no more marks to add
+      pub first-rest : TableFits i t (length m₀) → q .count ≡ 0 → Adds true m₀ m (overOf i t)
+      unfolding overFirst overOf
+      first-rest f z = record {
+        len = a .len;
+        bits = λ n. rw (← eb, ← es) (omega (arith, a .bits n, cut n, sum-cut j (slots - j) (over n), none n));
+      }
+        where
+          over : ℕ → ℕ → ℕ
+          over n j = cov (u32At t (base + 6 * j)) (u16At t (base + 6 * j + 4)) n
+
+          cut : (n : ℕ) → sumTo slots (over n) ≡ sumTo (j + (slots - j)) (over n)
+          cut n = ap (λ (k : ℕ). sumTo k (over n)) (let g : slots ≡ j + (slots - j) = omega arith in g)
+
+          none : (n : ℕ) → sumTo (slots - j) (λ k. over n (j + k)) ≡ 0
+          none n = sum-zero (slots - j) _ (λ k lk. rw (rw (← eb) at (f .rest j (rw (← eb) (sym count-is ∙ z)) (j + k) (omega arith) (omega arith))) (cov-none _ n))
+
+  pub first-end : (i slots : ℕ) → base ≡ baseOf i t → slots ≡ slotsOf i t → j ≤ slots → slots ≤ j → Adds true m₀ m (overOf i t)
+  unfolding overFirst overOf
+  first-end i slots eb es h l = let e : j ≡ slotsOf i t = omega arith in rw (e, eb) at a
+
+-- ---- R6 gives that the pointers of a table fit, and that none lies over zone 1 or Z
+
+module _ (v : View) (i : ℕ) (shape : Shape v i (v .table i)) where
+  over-outside : (n : ℕ) → (n < 1024) ⊎ (1024 * (v .zones - 1) ≤ n) → overOf i (v .table i) n ≡ 0
+  unfolding overOf
+  over-outside n d = sum-zero (slotsOf i (v .table i)) _ (λ j l. elim (decLt 0 (countOf i (v .table i) j)) [
+    | yes u ↦ (let r = shape .used j l (omega arith) in ⊎-elim (λ h. cov-before _ _ n (omega (arith, r .low))) (λ h. cov-after _ _ n (omega (arith, r .high))) d)
+    | no u ↦ (let e : countOf i (v .table i) j ≡ 0 = omega arith in rw e (cov-none _ n))
+  ])
+
+  fit : v .zones ≤ 256 → (j : ℕ) → j < slotsOf i (v .table i) → startOf i (v .table i) j + countOf i (v .table i) j ≤ 262144
+  fit z j l = elim (decLt 0 (startOf i (v .table i) j + countOf i (v .table i) j)) [ yes u ↦ omega (arith, shape .used j l u .high) | no u ↦ omega arith ]
+
+  -- behind an unused pointer all are unused
+  unused : (j : ℕ) → countOf i (v .table i) j ≡ 0 → (k : ℕ) → j + k < slotsOf i (v .table i) → Used i (v .table i) (j + k) → ⊥
+  unused j z zero l u = omega (arith, shape .used (j + 0) l u .some, ap (countOf i (v .table i)) (let e : j + 0 ≡ j = omega arith in e))
+  unused j z (suc k) l u =
+      let e : j + suc k ≡ suc (j + k) = omega arith in
+      unused j z k (omega arith) (shape .first (j + k) (omega arith) (rw e at u))
+
+  rest : (j : ℕ) → countOf i (v .table i) j ≡ 0 → (k : ℕ) → k < slotsOf i (v .table i) → j ≤ k → countOf i (v .table i) k ≡ 0
+  rest j z k l h = elim (decLt 0 (countOf i (v .table i) k)) [
+    | yes u ↦ (let e : j + (k - j) ≡ k = omega arith in absurd ((rw e at (unused j z (k - j))) l (omega arith)))
+    | no u ↦ omega arith
+  ]
+
+module _ (p : Places) (b : List ℕ) (lay : Layout p (length b)) (r6 : R6 (viewOf p b)) where
+  pub table-fits : (i len : ℕ) (t : List ℕ) → 1 ≤ i → i ≤ p .indexes → t ≡ tableAt p b i → len ≡ 4096 → TableFits i t len
+  table-fits i len t lo hi e el =
+      let shape = r6 i (omega arith) lo in
+      rw e (record {
+        size = length-table p b i lay lo hi;
+        long = el;
+        fit = fit (viewOf p b) i shape (lay .most);
+        rest = rest (viewOf p b) i shape;
+      })
+
+  outside : (n : ℕ) → (n < 1024) ⊎ (1024 * (p .zones - 1) ≤ n) → pointersOver (viewOf p b) n ≡ 0
+  unfolding pointersOver tally
+  outside n d = sum-zero (p .indexes) _ (λ k l. over-outside (viewOf p b) (k + 1) (r6 (k + 1) (omega arith) (omega arith)) n d)
+
+  -- ---- the rule, from the marks
+
+  -- by R7 no sector is marked twice
+  pub rule-fits : R7 (viewOf p b) → (n : ℕ) → pointersOver (viewOf p b) n ≤ 1
+  rule-fits rule n = elim (decLt n 1024) [
+    | yes h ↦ omega (arith, outside n (inl h))
+    | no h ↦ elim (decLt n (1024 * (p .zones - 1))) [
+      | yes g ↦ omega (arith, rule n g (omega arith), bitAt-lt b (p .sectortable) n)
+      | no g ↦ omega (arith, outside n (inr (omega arith)))
+    ]
+  ]
+
+-- ---- all tables
+
+module _ (v : View) where
+  pub tables-none : (m : List ℕ) → MarksAdded m m (overTables v 0)
+  unfolding overTables sumTo
+  tables-none m = record { len = refl; bits = λ n. omega arith }
+
+  module _ (r : Bool) (m₀ m m' : List ℕ) (k : ℕ) (a : MarksAdded m₀ m (overTables v k)) (t : List ℕ) (e : t ≡ v .table (k + 1)) (d : Adds r m m' (overOf (k + 1) t)) where
+    pub tables-more : not r ≡ false → MarksAdded m₀ m' (overTables v (k + 1))
+    unfolding overTables
+    tables-more g =
+        let x = rw e at (adds-true r m m' _ d g) in
+        record { len = x .len ∙ a .len; bits = λ n. omega (arith, x .bits n, a .bits n, sum-more k (λ k. overOf (k + 1) (v .table (k + 1)) n)) }
+
+    pub tables-stop : k < v .indexes → not r ≡ true → Adds false m₀ m' (pointersOver v)
+    unfolding overTables pointersOver tally
+    tables-stop l g h = adds-false r m m' _ d g (λ n. rw e (omega (arith, h n, a .bits n, sum-upto (v .indexes) k (λ k. overOf (k + 1) (v .table (k + 1)) n) l)))
+
+  pub tables-end : (m₀ m : List ℕ) (k : ℕ) → MarksAdded m₀ m (overTables v k) → k ≤ v .indexes → v .indexes ≤ k → Adds true m₀ m (pointersOver v)
+  unfolding overTables pointersOver tally
+  tables-end m₀ m k a h l = let e : k ≡ v .indexes = omega arith in rw e at a
+
+-- ---- words compared for bits
+
+module _ (b : List ℕ) (small : (j : ℕ) → getD b j 0 < 256) where
+  -- a byte within a number
+  byte-of : (h x l k j : ℕ) → x < 256 → l < 2 ^ k → j < 8 → bitOf ((h * 256 + x) * 2 ^ k + l) (k + j) ≡ bitOf x j
+  byte-of h x l k j hx hl hj = bit-high (h * 256 + x) l k j hl ∙ bit-low h x 8 j hx hj
+
+  four-bit : (o q j : ℕ) → q < 4 → j < 8 → bitOf (u32At b o) (8 * (3 - q) + j) ≡ bitOf (getD b (o + q) 0) j
+  unfolding u32At
+  four-bit o zero j lq lj =
+      let e : getD b o 0 * 16777216 + getD b (o + 1) 0 * 65536 + getD b (o + 2) 0 * 256 + getD b (o + 3) 0 ≡ (0 * 256 + getD b o 0) * 2 ^ 24 + (getD b (o + 1) 0 * 65536 + getD b (o + 2) 0 * 256 + getD b (o + 3) 0) = omega arith in
+      let z : o ≡ o + 0 = omega arith in
+      ap (λ (n : ℕ). bitOf n (24 + j)) e ∙ byte-of 0 (getD b o 0) (getD b (o + 1) 0 * 65536 + getD b (o + 2) 0 * 256 + getD b (o + 3) 0) 24 j (small o) (omega (arith, small (o + 1), small (o + 2), small (o + 3))) lj
+      ∙ ap (λ (n : ℕ). bitOf (getD b n 0) j) z
+  four-bit o (suc zero) j lq lj =
+      let e : getD b o 0 * 16777216 + getD b (o + 1) 0 * 65536 + getD b (o + 2) 0 * 256 + getD b (o + 3) 0 ≡ (getD b o 0 * 256 + getD b (o + 1) 0) * 2 ^ 16 + (getD b (o + 2) 0 * 256 + getD b (o + 3) 0) = omega arith in
+      ap (λ (n : ℕ). bitOf n (16 + j)) e ∙ byte-of (getD b o 0) (getD b (o + 1) 0) (getD b (o + 2) 0 * 256 + getD b (o + 3) 0) 16 j (small (o + 1)) (omega (arith, small (o + 2), small (o + 3))) lj
+  four-bit o (suc (suc zero)) j lq lj =
+      let e : getD b o 0 * 16777216 + getD b (o + 1) 0 * 65536 + getD b (o + 2) 0 * 256 + getD b (o + 3) 0 ≡ ((getD b o 0 * 256 + getD b (o + 1) 0) * 256 + getD b (o + 2) 0) * 2 ^ 8 + getD b (o + 3) 0 = omega arith in
+      ap (λ (n : ℕ). bitOf n (8 + j)) e ∙ byte-of (getD b o 0 * 256 + getD b (o + 1) 0) (getD b (o + 2) 0) (getD b (o + 3) 0) 8 j (small (o + 2)) (small (o + 3)) lj
+  four-bit o (suc (suc (suc zero))) j lq lj =
+      let e : getD b o 0 * 16777216 + getD b (o + 1) 0 * 65536 + getD b (o + 2) 0 * 256 + getD b (o + 3) 0 ≡ ((getD b o 0 * 256 + getD b (o + 1) 0) * 256 + getD b (o + 2) 0) * 2 ^ 8 + getD b (o + 3) 0 = omega arith in
+      let z : 0 + j ≡ j = omega arith in
+      ap₂ bitOf e z ∙ bit-low ((getD b o 0 * 256 + getD b (o + 1) 0) * 256 + getD b (o + 2) 0) (getD b (o + 3) 0) 8 j (small (o + 3)) lj
+  four-bit o (suc (suc (suc (suc q)))) j lq lj = absurd (omega arith)
+
+  -- bit n of the eight bytes, counted as in a table of bits
+  word-bit : (o n : ℕ) → n < 64 → bitOf (wordAt b o) (63 - n) ≡ bitOf (getD b (o + n / 8) 0) (7 - n % 8)
+  unfolding wordAt
+  word-bit o n l =
+      let hl = u32-lt b (o + 4) small in
+      elim (decLt n 32) [
+        | yes h ↦ (let e : 63 - n ≡ 32 + (8 * (3 - n / 8) + (7 - n % 8)) = omega arith in
+            ap (bitOf (u32At b o * 4294967296 + u32At b (o + 4))) e ∙ bit-high (u32At b o) (u32At b (o + 4)) 32 (8 * (3 - n / 8) + (7 - n % 8)) hl ∙ four-bit o (n / 8) (7 - n % 8) (omega arith) (omega arith))
+        | no h ↦ (let e : 63 - n ≡ 8 * (3 - (n / 8 - 4)) + (7 - n % 8) = omega arith in
+            let f : o + 4 + (n / 8 - 4) ≡ o + n / 8 = omega arith in
+            ap (bitOf (u32At b o * 4294967296 + u32At b (o + 4))) e ∙ bit-low (u32At b o) (u32At b (o + 4)) 32 (8 * (3 - (n / 8 - 4)) + (7 - n % 8)) hl (omega arith) ∙ four-bit (o + 4) (n / 8 - 4) (7 - n % 8) (omega arith) (omega arith) ∙ ap (λ (i : ℕ). bitOf (getD b i 0) (7 - n % 8)) f)
+      ]
+
+  word-lt : (o : ℕ) → wordAt b o < 2 ^ 64
+  unfolding wordAt
+  word-lt o = omega (arith, u32-lt b o small, u32-lt b (o + 4) small)
+
+  -- the sector table's bits by its words
+  table-bit : (base s : ℕ) → bitOf (wordAt b (base + 8 * (s / 64))) (63 - s % 64) ≡ bitAt b base s
+  unfolding bitAt
+  table-bit base s =
+      let e : base + 8 * (s / 64) + s % 64 / 8 ≡ base + s / 8 = omega arith in
+      let f : s % 64 % 8 ≡ s % 8 = omega arith in
+      rw (e, f) at (word-bit (base + 8 * (s / 64)) (s % 64) (omega arith))
+
+  module _ (p : Places) (m : List ℕ) where
+    pub agrees-stop : (k x : ℕ) → ((j : ℕ) → getD m j 0 < 2 ^ 64) → 16 ≤ k → k < 16 * (p .zones - 1) → x ≡ wordAt b (p .sectortable + 8 * k) → (x ≡ getD m k 0 → ⊥) → Agrees p b m → ⊥
+    unfolding markAt
+    agrees-stop k x hm lo hi e ne h = ne (e ∙ word-same (wordAt b (p .sectortable + 8 * k)) (getD m k 0) (word-lt (p .sectortable + 8 * k)) (hm k) (λ j l. bit j l))
+      where
+        bit : (j : ℕ) → j < 64 → bitOf (wordAt b (p .sectortable + 8 * k)) j ≡ bitOf (getD m k 0) j
+        bit j l =
+            let e₁ : (64 * k + (63 - j)) / 64 ≡ k = omega arith in
+            let e₂ : 63 - (64 * k + (63 - j)) % 64 ≡ j = omega arith in
+            rw (e₁, e₂) at (table-bit (p .sectortable) (64 * k + (63 - j)) ∙ sym (h (64 * k + (63 - j)) (omega arith) (omega arith)))
+
+    pub agrees-end : (k : ℕ) → 16 * (p .zones - 1) ≤ k → ((j : ℕ) → j < k → 16 ≤ j → wordAt b (p .sectortable + 8 * j) ≡ getD m j 0) → Agrees p b m
+    unfolding markAt
+    agrees-end k l h s hi lo = ap (λ (n : ℕ). bitOf n (63 - s % 64)) (sym (h (s / 64) (omega arith) (omega arith))) ∙ table-bit (p .sectortable) s
+
+-- ---- R7
+
+zeros-clear : (k n : ℕ) → markAt (replicate k 0) n ≡ 0
+unfolding markAt bitOf
+zeros-clear k n = rw (getD-zeros k (n / 64), zero-div (2 ^ (63 - n % 64)))
+
+module _ (p : Places) (b m : List ℕ) (d : Bool) where
+  pub rule-stop : Layout p (length b) → R6 (viewOf p b) → Adds d (replicate 4096 0) m (pointersOver (viewOf p b)) → not d ≡ true → R7 (viewOf p b) → ⊥
+  rule-stop lay r6 a e rule = adds-false d (replicate 4096 0) m _ a e (λ n. omega (arith, zeros-clear 4096 n, rule-fits p b lay r6 rule n))
+
+  pub rule-end : (r : Bool) → Adds d (replicate 4096 0) m (pointersOver (viewOf p b)) → not d ≡ false → Says r (Agrees p b m) → Says r (R7 (viewOf p b))
+  rule-end r a e s =
+      let x = adds-true d (replicate 4096 0) m _ a e in
+      let q : (n : ℕ) → markAt m n ≡ pointersOver (viewOf p b) n = λ n. omega (arith, x .bits n, zeros-clear 4096 n) in
+      says-map r (λ h n l lo. sym (q n) ∙ h n l lo) (λ h n l lo. q n ∙ h n l lo) s

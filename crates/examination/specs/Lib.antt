@@ -1,0 +1,9 @@
+pub mod Findings
+pub mod ZoneParts
+pub mod Slots
+pub mod Met
+pub mod Counted
+pub mod Surveys
+pub mod Marks
+pub mod Halves
+pub mod Examined

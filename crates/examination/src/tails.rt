@@ -1,0 +1,21 @@
+// R1's tails: what the zone and the sector table leave of their last sectors is null.
+use field::parts::bytes_all;
+use tables::places::Places;
+ghost use lib.ListN.{length};
+ghost use Rattle.field.specs.Says.{Says};
+ghost use Rattle.tables.specs.Places.{Layout};
+ghost use Rattle.tables.specs.Rules.R1.{Stand, Tails};
+
+pub fn tails_null(b: &[u8], p: Places) -> bool
+    requires { ⌜ Layout p (length (now b)) ⌝ }
+    requires { ⌜ Stand p (length (now b)) ⌝ }
+    ensures { λ r. ⌜ Says r (Tails p (now (b .entry))) ⌝ }
+{
+    let z = p.zones as usize;
+    let entries = 1024 * ((6 * z + 1023) / 1024);
+    if !bytes_all(b, p.zonetable + 6 * z, entries - 6 * z, 0) {
+        return false;
+    }
+    let bits = 1024 * ((z + 7) / 8);
+    bytes_all(b, p.sectortable + 128 * z, bits - 128 * z, 0)
+}

@@ -1,0 +1,163 @@
+-- Demand 3, sentence by sentence: "From lawful books and a body of the right length, after any requests without format, refused ones included:
+-- the rules still hold; each sector outside the system zones is free or belongs to one place of one file; a request changes no index table and
+-- no data byte of a file it does not name; each file sector holds what the last write put there until the file's actual delete; no index chain
+-- is longer than the number of index tables." The terms are those of specs/History.antt.
+use mathlib.Core.Path.{_≡_, sym, _∙_}
+use mathlib.Core.Logic.{_⊎_, inl, inr, _≢_}
+use mathlib.Core.Bool.{Bool}
+use mathlib.Core.List.{List}
+use Prim.Native.Nat.{ℕ, suc, _+_, _-_, _*_, _≤_, _<_}
+use native.Mathlib.Decide.{ℕ-discrete}
+use native.Mathlib.Omega.{arith}
+use lib.ListN.{length}
+use Rattle.field.proofs.BitLaws.{bitAt-lt}
+use Rattle.tables.specs.declared.index.Pointer.{Pointer}
+use Rattle.tables.specs.Books.{Good}
+use Rattle.tables.specs.Indexes.{baseOf, pointerAt, fileOf}
+use Rattle.tables.specs.Lawful.{Lawful}
+use Rattle.tables.specs.Places.{placesOf, Layout}
+use Rattle.tables.specs.Rules.R4.{FreeChain}
+use Rattle.tables.specs.Rules.R5.{FileChain}
+use Rattle.tables.specs.Rules.R8.{fileSectors}
+use Rattle.tables.specs.Views.{viewOf, Parent}
+use Rattle.tables.proofs.GateLaws.{zero-good}
+use Rattle.tables.proofs.PointerLaws.{set-under, under-set}
+use Rattle.allocation.proofs.LastLaws.{file-short}
+use Rattle.files.specs.Moves.{sectorContent}
+use Rattle.files.specs.Spots.{kthSector}
+use Rattle.files.proofs.SectorPlaceLaws.{kth-under, place-one, under-place}
+use Rattle.files.proofs.SpotLaws.{kth-inside}
+use Rattle.requests.specs.declared.amount.Amount.{Amount}
+use Rattle.requests.specs.declared.answer.Answer.{Answer}
+use Rattle.requests.specs.Read.{ReadOut}
+use Rattle.requests.specs.Show.{Shown}
+use Rattle.requests.specs.State.{removed, recovered, protected}
+use Rattle.histories.specs.History.{Volume, seen, LawfulVolume, Changes, temporaryDelete, recover, setProtection, write, Does, RequestStep, History, namedBy, Belongs, bytesAt, PutsIn, Deletes, SparedIn}
+use Rattle.requests.proofs.StateKeeps.{removed-keeps, recovered-keeps, protected-keeps, after-pointer}
+use Rattle.histories.proofs.StepLawful.{step-lawful}
+use Rattle.histories.proofs.StepFrame.{step-untouched, step-bytes, step-puts}
+use Rattle.histories.proofs.HistoryLaws.{other-bytes, step-place, lawful-after, spared-stays, free-short}
+use Rattle.requests.proofs.StampLaws.{removed-restates, recovered-restates, protected-restates}
+use Rattle.histories.proofs.AlikeLaws.{SameFile, shows-same, reads-same, wrote-same}
+
+module _ (v w : Volume) (start : LawfulVolume v) (h : History v w) where
+  -- ---- "the rules still hold", and the body has its length
+
+  pub still-lawful : LawfulVolume w
+  still-lawful = lawful-after v w start h
+
+  layout : Layout (placesOf (w .books)) (length (w .books))
+  layout = zero-good (w .books) (still-lawful .lawful) .layout
+
+  lawful : Lawful (placesOf (w .books)) (w .books)
+  lawful = zero-good (w .books) (still-lawful .lawful) .lawful
+
+  bits : (s : ℕ) → seen w .bit s < 2
+  bits s = bitAt-lt (w .books) (placesOf (w .books) .sectortable) s
+
+  -- ---- "each sector outside the system zones is free or belongs to one place of one file"
+
+  pub free-or-belongs : (s : ℕ) → 1024 ≤ s → s < 1024 * (seen w .zones - 1) → (seen w .bit s ≡ 0) ⊎ ((f : ℕ) × (k : ℕ) × Belongs w f k s)
+  free-or-belongs s low high = elim (ℕ-discrete (seen w .bit s) 0) [
+    | yes z ↦ inl z
+    | no ne ↦ (let u = set-under (seen w) (lawful .r6) (lawful .r7) bits s high low (omega (arith, bits s)) in
+        let q = under-place (placesOf (w .books)) (w .books) layout lawful (u .0) (u .1) s (u .2) in
+        inr (fileOf (u .0) (seen w .table (u .0)), q .1 .0, record { file = q .0; place = q .1 .1; here = q .1 .2 }))
+  ]
+
+  -- not both
+  pub belongs-set : (f k s : ℕ) → Belongs w f k s → seen w .bit s ≡ 1
+  belongs-set f k s here =
+      let u = kth-under (placesOf (w .books)) (w .books) layout lawful f k (here .file) (here .place) in
+      under-set (seen w) (lawful .r6) (lawful .r7) bits s (u .0) (u .1) (rw (here .here) at (u .2))
+
+  -- one file, one place
+  pub belongs-one : (f g k l s : ℕ) → Belongs w f k s → Belongs w g l s → (f ≡ g) × (k ≡ l)
+  belongs-one f g k l s here there =
+      place-one (placesOf (w .books)) (w .books) layout lawful f g k l (here .file) (there .file) (here .place) (there .place) (here .here ∙ sym (there .here))
+
+  -- and no sector of the system zones
+  pub belongs-inside : (f k s : ℕ) → Belongs w f k s → (1024 ≤ s) × (s < 1024 * (seen w .zones - 1))
+  belongs-inside f k s here = rw (here .here) at (kth-inside (placesOf (w .books)) (w .books) layout lawful f (here .file) k (here .place))
+
+  -- ---- "no index chain is longer than the number of index tables": a parent and its m children, and the m free tables
+
+  pub file-chain : (f : ℕ) → Parent (seen w) f → (m : ℕ) × FileChain (seen w) f m × (suc m ≤ seen w .indexes)
+  file-chain f parent = let chain = lawful .r5 .chain f parent in (lawful .r5 .long f, chain, file-short (seen w) f (lawful .r5 .long f) parent chain)
+
+  pub free-chain : (m : ℕ) × FreeChain (seen w) m × (m ≤ seen w .indexes)
+  free-chain = (lawful .r4 .long, lawful .r4 .chain, free-short (seen w) (lawful .r4 .long) (lawful .r4 .chain))
+
+  -- ---- "a request changes no index table and no data byte of a file it does not name"
+
+  module _ (x : Volume) (s : RequestStep w x) where
+    module _ (g : ℕ) (parent : Parent (seen w) g) (other : g ≢ namedBy (s .request)) where
+      -- the file's index tables are those that it had, byte for byte
+      pub other-tables : (j : ℕ) → 1 ≤ j → j ≤ seen w .indexes → fileOf j (seen w .table j) ≡ g → seen x .table j ≡ seen w .table j
+      other-tables j low high is =
+          let u = step-untouched w x still-lawful (s .request) (s .does) in
+          u .1 .was j low high (λ z. omega (arith, parent .low)) (λ z. u .2 g parent other (sym is ∙ z))
+
+      pub no-other-tables : (j : ℕ) → 1 ≤ j → j ≤ seen w .indexes → fileOf j (seen x .table j) ≡ g → seen x .table j ≡ seen w .table j
+      no-other-tables j low high is =
+          let u = step-untouched w x still-lawful (s .request) (s .does) in
+          u .1 .now j low high (λ z. omega (arith, parent .low)) (λ z. u .2 g parent other (sym is ∙ z))
+
+      pub other-data : (k : ℕ) → k < fileSectors (seen w) g → bytesAt x g k ≡ bytesAt w g k
+      other-data k l = other-bytes w x still-lawful (s .request) (s .does) g parent other k l
+
+    -- any file, the named one too, keeps its sectors at their places until its actual delete
+    pub place-kept : (f k n : ℕ) → Belongs w f k n → (Deletes w x (s .request) (s .does) f → ⊥) → Belongs x f k n
+    place-kept f k n here kept = step-place w x still-lawful s f k n here kept
+
+    -- what is not written stays, in old sectors as in new ones
+    pub bytes-kept : (f k n : ℕ) → Belongs x f k n → ((bytes : List ℕ) → PutsIn w x (s .request) (s .does) f k bytes → ⊥) → sectorContent (x .body) n ≡ sectorContent (w .body) n
+    bytes-kept f k n here unwritten = step-bytes w x still-lawful (s .request) (s .does) f k n here unwritten
+
+  -- ---- "each file sector holds what the last write put there until the file's actual delete"
+
+  pub memory : (x y : Volume) (s : RequestStep w x) (f k : ℕ) (bytes : List ℕ) → PutsIn w x (s .request) (s .does) f k bytes → (after : History x y) → SparedIn after f k
+      → (n : ℕ) × Belongs y f k n × (sectorContent (y .body) n ≡ bytes)
+  memory x y s f k bytes put after spared =
+      let p = step-puts w x still-lawful (s .request) (s .does) f k bytes put in
+      let q = spared-stays x y (step-lawful w x still-lawful (s .request) (s .does)) f k (p .0) (p .1) after spared in
+      (p .0, q .0, q .1 ∙ p .2)
+
+  -- and so does every sector hold what it held, written or not, while nothing is put there and the file is not actually deleted
+  pub stays : (y : Volume) (f k n : ℕ) → Belongs w f k n → (after : History w y) → SparedIn after f k → Belongs y f k n × (sectorContent (y .body) n ≡ sectorContent (w .body) n)
+  stays y f k n here after spared = spared-stays w y still-lawful f k n here after spared
+
+  -- ---- for the person who reads only one line: two files share no sector, and a write to one changes nothing that the other gives
+
+  pub apart : (f g k l : ℕ) → f ≢ g → Parent (seen w) f → Parent (seen w) g → k < fileSectors (seen w) f → l < fileSectors (seen w) g → kthSector (seen w) f k ≢ kthSector (seen w) g l
+  apart f g k l ne pf pg lk ll e = ne (place-one (placesOf (w .books)) (w .books) layout lawful f g k l pf pg lk ll e .0)
+
+  module _ (x : Volume) (f : ℕ) (at many : Amount) (swap : Bool) (input date : List ℕ) (d : Does (write f at many swap input date) w x) (g : ℕ) (other : g ≢ f) where
+    twin : SameFile w x g
+    twin = wrote-same w x still-lawful f at many swap input date d g other
+
+    pub read-same : (position long : Amount) (exchange : Bool) (out : List ℕ) (r r' : Answer) (y y' : List ℕ)
+        → ReadOut (w .books) (w .body) g position long exchange out r y → ReadOut (x .books) (x .body) g position long exchange out r' y' → (r ≡ r') × (y ≡ y')
+    read-same position long exchange out r r' y y' a b = reads-same w x g twin position long exchange out r r' y y' a b
+
+    pub show-same : (k : ℕ) (y y' : List ℕ) → Shown (w .books) (w .body) g k y → Shown (x .books) (x .body) g k y' → y ≡ y'
+    show-same k y y' a b = shows-same w x g twin k y y' a b
+
+-- the j-th pointer of index table i
+abbrev pointer : List ℕ → ℕ → ℕ → Pointer
+pointer b i j = let t = viewOf (placesOf b) b .table i in pointerAt t (baseOf i t + 6 * j)
+
+-- ---- "temporary delete, recover and set protection change neither pointers nor data": data, since they do not take the body
+
+module _ (b b' : List ℕ) (good : Good b (placesOf b)) (id w : ℕ) (date : List ℕ) (i j : ℕ) (low : 1 ≤ i) (high : i ≤ placesOf b .indexes) where
+  pub removed-pointers : Changes (temporaryDelete id date) b b' → pointer b' i j ≡ pointer b i j
+  removed-pointers d = after-pointer (d .0) (removed (placesOf b) b id date) b b' id i j low high good (removed-keeps b id date (d .0) b' (placesOf b) (d .1) good) (d .1 .books)
+      (removed-restates b good id date (d .0) (d .1 .number))
+
+  pub recovered-pointers : Changes (recover id date) b b' → pointer b' i j ≡ pointer b i j
+  recovered-pointers d = after-pointer (d .0) (recovered (placesOf b) b id date) b b' id i j low high good (recovered-keeps b id date (d .0) b' (placesOf b) (d .1) good) (d .1 .books)
+      (recovered-restates b good id date (d .0) (d .1 .number))
+
+  pub protected-pointers : Changes (setProtection id w date) b b' → pointer b' i j ≡ pointer b i j
+  protected-pointers d = after-pointer (d .0) (protected (placesOf b) b id w date) b b' id i j low high good (protected-keeps b id w date (d .0) b' (placesOf b) (d .1) good) (d .1 .books)
+      (protected-restates b good id date (d .0) w (d .1 .number))

@@ -1,0 +1,90 @@
+-- Histories: what each step keeps, all of them keep; and the length of the free chain.
+use mathlib.Core.Path.{_≡_, refl, sym, ap, _∙_}
+use mathlib.Core.Logic.{_≢_}
+use mathlib.Core.List.{List}
+use Prim.Native.Nat.{ℕ, _+_, _-_, _≤_, _<_}
+use native.Mathlib.Omega.{arith}
+use Rattle.field.proofs.Sums.{sum-one, sum-out}
+use Rattle.tables.specs.Places.{placesOf}
+use Rattle.tables.specs.Rules.R4.{FreeChain}
+use Rattle.tables.specs.Rules.R8.{fileSectors}
+use Rattle.tables.specs.Rules.R9.{freeOne}
+use Rattle.tables.specs.Views.{View, Parent, walk, next}
+use Rattle.tables.proofs.ChainLaws.{walk-once}
+use Rattle.tables.proofs.Sector1CountLaws.{free-yes, free-no}
+use Rattle.files.specs.Moves.{sectorContent}
+use Rattle.files.specs.Spots.{kthSector}
+use Rattle.files.proofs.UntouchedLaws.{other-parent, other-places}
+use Rattle.tables.proofs.GateLaws.{zero-good}
+use Rattle.histories.specs.History.{Volume, seen, LawfulVolume, Request, looks, changes, write, Does, RequestStep, History, none, then, namedBy, Belongs, bytesAt, PutsIn, Deletes, SparedIn}
+use Rattle.histories.proofs.StepLawful.{step-lawful}
+use Rattle.histories.proofs.StepFrame.{step-untouched, step-stands, step-bytes}
+
+-- ---- steps
+
+-- only the file that is named is written
+pub puts-named : (v w : Volume) (q : Request) (d : Does q v w) (f k : ℕ) (bytes : List ℕ) → PutsIn v w q d f k bytes → namedBy q ≡ f
+puts-named v w (looks q) d f k bytes p = absurd p
+puts-named v w (changes c) d f k bytes p = absurd p
+puts-named v w (write id position long exchange input date) d f k bytes p = p .file
+
+-- a file that is not named: its data bytes stay
+module _ (v w : Volume) (lawful : LawfulVolume v) (q : Request) (d : Does q v w) (g : ℕ) (parent : Parent (seen v) g) (other : g ≢ namedBy q) where
+  pub other-bytes : (k : ℕ) → k < fileSectors (seen v) g → bytesAt w g k ≡ bytesAt v g k
+  other-bytes k l =
+      let u = step-untouched v w lawful q d in
+      let p = placesOf (v .books) in
+      let b = v .books in
+      let ne = u .2 g parent other in
+      let good = zero-good (v .books) (lawful .lawful) in
+      let stays = other-places p b (good .layout) (good .lawful) (seen w) (u .0) (u .1) g parent ne in
+      let stands = other-parent p b (good .layout) (good .lawful) (seen w) (u .0) (u .1) g parent ne in
+      step-bytes v w lawful q d g k (kthSector (seen w) g k) (record { file = stands; place = omega (arith, stays .most); here = refl })
+      (λ bytes put. other (sym (puts-named v w q d g k bytes put))) ∙ ap (sectorContent (v .body)) (stays .place k l)
+
+-- a file's sectors stay at their places until it is deleted
+pub step-place : (v w : Volume) → LawfulVolume v → (s : RequestStep v w) (f k n : ℕ) → Belongs v f k n → (Deletes v w (s .request) (s .does) f → ⊥) → Belongs w f k n
+step-place v w lawful s f k n here kept =
+    let q = step-stands v w lawful (s .request) (s .does) f (here .file) kept in
+    record { file = q .0; place = omega (arith, here .place, q .1 .most); here = q .1 .place k (here .place) ∙ here .here }
+
+-- ---- histories
+
+pub lawful-after : (v w : Volume) → LawfulVolume v → History v w → LawfulVolume w
+lawful-after v w start (none e) = rw e start
+lawful-after v w start (then {v = x} h s) = step-lawful x w (lawful-after v x start h) (s .request) (s .does)
+
+-- a place of a file that every step spares keeps its sector and its bytes
+pub spared-stays : (v w : Volume) → LawfulVolume v → (f k n : ℕ) → Belongs v f k n → (h : History v w) → SparedIn h f k
+    → Belongs w f k n × (sectorContent (w .body) n ≡ sectorContent (v .body) n)
+spared-stays v w start f k n here (none e) spared = rw e (here, refl)
+spared-stays v w start f k n here (then {v = x} h s) spared =
+    let before = spared-stays v x start f k n here h (spared .0) in
+    let lawful = lawful-after v x start h in
+    let there = step-place x w lawful s f k n (before .0) (spared .1 .kept) in
+    (there, step-bytes x w lawful (s .request) (s .does) f k n there (spared .1 .unwritten) ∙ before .1)
+
+-- ---- the free chain meets different tables
+
+pub free-short : (v : View) (m : ℕ) → FreeChain v m → m ≤ v .indexes
+free-short v m chain =
+    let s = sum-out (v .indexes) m (λ k. walk (next v) (v .head) k - 1) (λ i. 1) (λ i. 1 - freeOne (i + 1) (v .table (i + 1))) (λ k l. omega (arith, chain .each k l .low, chain .each k l .high)) once zeros ones in
+    omega (arith, sum-one m (λ k. 1) (λ k l. refl), sum-one (v .indexes) (λ k. 1) (λ k l. refl))
+  where
+    once : (k : ℕ) → k < m → (j : ℕ) → j < k → walk (next v) (v .head) j - 1 ≢ walk (next v) (v .head) k - 1
+    once k l j lj e =
+        walk-once (next v) (v .head) m (chain .ends) (λ n ln. chain .each n ln .low) k l j lj (omega (arith, chain .each k l .low, chain .each j (omega arith) .low))
+
+    zeros : (k : ℕ) → k < m → 1 - freeOne (walk (next v) (v .head) k - 1 + 1) (v .table (walk (next v) (v .head) k - 1 + 1)) ≡ 0
+    zeros k l =
+        let b = chain .each k l in
+        let e : walk (next v) (v .head) k - 1 + 1 ≡ walk (next v) (v .head) k = omega (arith, b .low) in
+        omega (arith, free-yes (walk (next v) (v .head) k - 1 + 1) (v .table (walk (next v) (v .head) k - 1 + 1)) (rw e (b .word)))
+
+    ones : (i : ℕ) → i < v .indexes → ((k : ℕ) → k < m → walk (next v) (v .head) k - 1 ≢ i) → 1 - freeOne (i + 1) (v .table (i + 1)) ≡ 1
+    ones i l ne = omega (
+      arith,
+      free-no (i + 1) (v .table (i + 1)) (λ z.
+          let q = chain .every (i + 1) (record { low = omega arith; high = omega arith; word = z }) in
+          ne (q .0) (q .1) (omega (arith, q .2))),
+    )

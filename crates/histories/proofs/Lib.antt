@@ -1,0 +1,13 @@
+pub mod StepLeaves
+pub mod StepState
+pub mod StepGrow
+pub mod StepWrite
+pub mod StepLawful
+pub mod StepFrame
+pub mod HistoryLaws
+pub mod AlikeLaws
+pub mod ReadBack
+pub mod DemandThree
+pub mod CreateAnswers
+pub mod CardBooks
+pub mod BenchCards

@@ -1,0 +1,190 @@
+-- A volume and what requests make of it: the terms of demand 3. A step is what the public promise of its request says, refusals and reading
+-- requests included; format is no step.
+use mathlib.Core.Path.{_≡_}
+use mathlib.Core.Bool.{Bool}
+use mathlib.Core.List.{List}
+use Prim.Native.Nat.{ℕ, _+_, _-_, _/_, _≤_, _<_}
+use Rattle.tables.specs.declared.counts.Chosen.{Chosen}
+use Rattle.tables.specs.Books.{bookTests}
+use Rattle.tables.specs.Gates.{Gate}
+use Rattle.tables.specs.Places.{placesOf}
+use Rattle.tables.specs.Rules.R8.{fileSectors}
+use Rattle.tables.specs.Views.{View, viewOf, Parent}
+use Rattle.files.specs.Moves.{moved, sectorContent, bufferSector}
+use Rattle.files.specs.Spots.{kthSector}
+use Rattle.requests.specs.declared.amount.Amount.{Amount}
+use Rattle.requests.specs.declared.answer.Answer.{Answer}
+use Rattle.requests.specs.declared.create.Created.{Created}
+use Rattle.requests.specs.declared.locate.Located.{Located}
+use Rattle.requests.specs.declared.report.Text.{Text}
+use Rattle.requests.specs.declared.space.Space.{Space}
+use Rattle.requests.specs.Answers.{numberOf}
+use Rattle.requests.specs.Body.{BodySized}
+use Rattle.requests.specs.Create.{CreatedFixed, CreatedVariable}
+use Rattle.requests.specs.Delete.{Deleted}
+use Rattle.requests.specs.Amounts.{amountValue}
+use Rattle.requests.specs.Grow.{Grew}
+use Rattle.requests.specs.Listing.{Listed}
+use Rattle.requests.specs.Locate.{Locates}
+use Rattle.requests.specs.Mount.{Mounted, Dismounted}
+use Rattle.requests.specs.Read.{ReadOut}
+use Rattle.requests.specs.Report.{Reported}
+use Rattle.requests.specs.Search.{Searched}
+use Rattle.requests.specs.Show.{showTests, Shown}
+use Rattle.requests.specs.Space.{Spaced}
+use Rattle.requests.specs.State.{Removed, Recovered, Protected}
+use Rattle.requests.specs.Write.{Wrote}
+
+-- ---- a volume
+
+pub record Volume : Type 0 where
+  pub books : List ℕ
+  pub body : List ℕ
+
+-- what the rules see of it
+abbrev pub seen : Volume → View
+seen v = viewOf (placesOf (v .books)) (v .books)
+
+-- "lawful books and a body of the right length": none of the numbers 1 to 4 applies to the books
+pub record LawfulVolume (v : Volume) : Type 0 where
+  pub lawful : Gate (bookTests (v .books)) 0
+  pub sized : BodySized (v .books) (v .body)
+
+-- ---- requests with their arguments; of lent buffers, what they hold before. Each promise has its answer, and what lent buffers hold then
+
+-- those that change the books only, or not even these
+pub data Change : Type 0 where
+  mount : Change
+  dismount : Change
+  createFixed : (name : List ℕ) (size : Amount) (types : Chosen) (kind : ℕ) (date : List ℕ) → Change
+  createVariable : (name : List ℕ) (cell : Amount) (kind : ℕ) (date : List ℕ) → Change
+  grow : (id : ℕ) (long : Amount) (date : List ℕ) → Change
+  temporaryDelete : (id : ℕ) (date : List ℕ) → Change
+  recover : (id : ℕ) (date : List ℕ) → Change
+  actualDelete : (id : ℕ) (date : List ℕ) → Change
+  setProtection : (id w : ℕ) (date : List ℕ) → Change
+
+abbrev pub Changes : Change → List ℕ → List ℕ → Type 0
+Changes mount b b' = (r : ℕ) × Mounted b r b'
+Changes dismount b b' = (r : ℕ) × Dismounted b r b'
+Changes (createFixed name size types kind date) b b' = (r : Created) × CreatedFixed b name size types kind date r b'
+Changes (createVariable name cell kind date) b b' = (r : Created) × CreatedVariable b name cell kind date r b'
+Changes (grow id long date) b b' = (r : ℕ) × Grew b id long date r b'
+Changes (temporaryDelete id date) b b' = (r : ℕ) × Removed b id date r b'
+Changes (recover id date) b b' = (r : ℕ) × Recovered b id date r b'
+Changes (actualDelete id date) b b' = (r : ℕ) × Deleted b id date r b'
+Changes (setProtection id w date) b b' = (r : ℕ) × Protected b id w date r b'
+
+-- those that change nothing of the volume
+pub data Question : Type 0 where
+  search : (pattern ids : List ℕ) → Question
+  list : (from : ℕ) (entries : List ℕ) → Question
+  locate : (id k : ℕ) → Question
+  show : (id k : ℕ) → Question
+  showNumber : (id k : ℕ) → Question
+  read : (id : ℕ) (position long : Amount) (exchange : Bool) (out : List ℕ) → Question
+  space : Question
+  report : Question
+
+abbrev pub Answers : Question → Volume → Type 0
+Answers (search pattern ids) v = (r : Answer) × (ids' : List ℕ) × Searched (v .books) pattern ids r ids'
+Answers (list from entries) v = (r : Answer) × (entries' : List ℕ) × Listed (v .books) from entries r entries'
+Answers (locate id k) v = (r : Located) × Locates (v .books) id k r
+Answers (show id k) v = (part : List ℕ) × Shown (v .books) (v .body) id k part
+Answers (showNumber id k) v = (r : ℕ) × Gate (showTests (v .books) (v .body) id k) r
+Answers (read id position long exchange out) v = (r : Answer) × (out' : List ℕ) × ReadOut (v .books) (v .body) id position long exchange out r out'
+Answers space v = (r : Space) × Spaced (v .books) r
+Answers report v = (r : Text) × Reported (v .books) r
+
+-- write, which changes books and body, and all others
+pub data Request : Type 0 where
+  looks : Question → Request
+  changes : Change → Request
+  write : (id : ℕ) (position long : Amount) (exchange : Bool) (input date : List ℕ) → Request
+
+-- what the promise of the request says of the volume before and after
+abbrev pub Does : Request → Volume → Volume → Type 0
+Does (looks q) v v' = Answers q v × (v' ≡ v)
+Does (changes c) v v' = Changes c (v .books) (v' .books) × (v' .body ≡ v .body)
+Does (write id position long exchange input date) v v' = (r : Answer) × Wrote (v .books) (v .body) id position long exchange input date r (v' .books) (v' .body)
+
+-- ---- histories
+
+pub record RequestStep (v v' : Volume) : Type 0 where
+  pub request : Request
+  pub does : Does request v v'
+
+-- steps one after the other
+pub data History : Volume → Volume → Type 0 where
+  none : {v v' : Volume} → v' ≡ v → History v v'
+  then : {u v w : Volume} → History u v → RequestStep v w → History u w
+
+-- ---- what a request may change
+
+-- the file that a request which changes a file names; 0 for the others
+abbrev pub changedBy : Change → ℕ
+changedBy mount = 0
+changedBy dismount = 0
+changedBy (createFixed name size types kind date) = 0
+changedBy (createVariable name cell kind date) = 0
+changedBy (grow id long date) = id
+changedBy (temporaryDelete id date) = id
+changedBy (recover id date) = id
+changedBy (actualDelete id date) = id
+changedBy (setProtection id w date) = id
+
+abbrev pub namedBy : Request → ℕ
+namedBy (looks q) = 0
+namedBy (changes c) = changedBy c
+namedBy (write id position long exchange input date) = id
+
+-- sector s of the volume belongs to place k of file f, active or temporarily deleted
+pub record Belongs (v : Volume) (f k s : ℕ) : Type 0 where
+  pub file : Parent (seen v) f
+  pub place : k < fileSectors (seen v) f
+  pub here : kthSector (seen v) f k ≡ s
+
+-- the bytes of place k of file f
+abbrev pub bytesAt : Volume → ℕ → ℕ → List ℕ
+bytesAt v f k = sectorContent (v .body) (kthSector (seen v) f k)
+
+-- a write that is done puts these bytes at place k of file f
+pub record Puts (id : ℕ) (position long : Amount) (exchange : Bool) (input : List ℕ) (r : Answer) (f k : ℕ) (bytes : List ℕ) : Type 0 where
+  pub file : id ≡ f
+  pub done : numberOf r ≡ 0
+  pub from : amountValue position / 1024 ≤ k
+  pub to : k < amountValue position / 1024 + amountValue long / 1024
+  pub bytes' : bytes ≡ moved exchange (bufferSector input (k - amountValue position / 1024))
+
+-- the step is such a write
+abbrev pub PutsIn : (v v' : Volume) (q : Request) → Does q v v' → ℕ → ℕ → List ℕ → Type 0
+PutsIn v v' (looks q) d f k bytes = ⊥
+PutsIn v v' (changes c) d f k bytes = ⊥
+PutsIn v v' (write id position long exchange input date) d f k bytes = Puts id position long exchange input (d .0) f k bytes
+
+-- the step is a done actual delete of file f
+abbrev pub ChangeDeletes : (b b' : List ℕ) (c : Change) → Changes c b b' → ℕ → Type 0
+ChangeDeletes b b' mount d f = ⊥
+ChangeDeletes b b' dismount d f = ⊥
+ChangeDeletes b b' (createFixed name size types kind date) d f = ⊥
+ChangeDeletes b b' (createVariable name cell kind date) d f = ⊥
+ChangeDeletes b b' (grow id long date) d f = ⊥
+ChangeDeletes b b' (temporaryDelete id date) d f = ⊥
+ChangeDeletes b b' (recover id date) d f = ⊥
+ChangeDeletes b b' (actualDelete id date) d f = (id ≡ f) × (d .0 ≡ 0)
+ChangeDeletes b b' (setProtection id w date) d f = ⊥
+
+abbrev pub Deletes : (v v' : Volume) (q : Request) → Does q v v' → ℕ → Type 0
+Deletes v v' (looks q) d f = ⊥
+Deletes v v' (changes c) d f = ChangeDeletes (v .books) (v' .books) c (d .0) f
+Deletes v v' (write id position long exchange input date) d f = ⊥
+
+-- the step neither writes place k of file f nor deletes the file
+pub record Spares (v v' : Volume) (s : RequestStep v v') (f k : ℕ) : Type 0 where
+  pub unwritten : (bytes : List ℕ) → PutsIn v v' (s .request) (s .does) f k bytes → ⊥
+  pub kept : Deletes v v' (s .request) (s .does) f → ⊥
+
+-- no step of the history does
+abbrev pub SparedIn : {u v : Volume} → History u v → ℕ → ℕ → Type 0
+SparedIn (none e) f k = Unit {0}
+SparedIn (then {u} {v} {w} h s) f k = SparedIn h f k × Spares v w s f k

@@ -1,6 +1,0 @@
-use Rattle.names.proofs.PatternLaws.{one-fits, same-fits}
-use Rattle.names.proofs.pattern.stands_for.Statement.{statement}
-use Rattle.names.proofs.pattern.stands_for.Tie as tie
-
-pub stands-for-spec : {M : Type 1} → statement M
-stands-for-spec = tie.close (tie.spec (λ c. search one-fits) (λ c. search same-fits))

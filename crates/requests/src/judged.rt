@@ -1,0 +1,36 @@
+// The numbers that begin a request: the books are examined, then their flag.
+use examination::check::Checked;
+use examination::check::check;
+use tables::sector1::flag;
+ghost use mathlib.Core.Logic.{_≢_};
+ghost use Rattle.tables.specs.Gates.{Gate};
+ghost use Rattle.requests.specs.Answers.{flagTests, useTests};
+ghost use Rattle.requests.specs.Judged.{Judged};
+
+// Where the books' tables stand, or numbers 1 to 4, and n where the flag is f.
+pub fn judge(b: &[u8], f: u32, n: u32) -> Checked
+    requires { ⌜ n ≢ 0 ⌝ }
+    ensures { λ r. ⌜ Judged (flagTests f n (now (b .entry))) (now (b .entry)) r ⌝ }
+{
+    let found = check(b);
+    match found {
+        Checked::Refused(k) => Checked::Refused(k),
+        Checked::Fine(p) => {
+            if flag(b) == f {
+                return Checked::Refused(n);
+            }
+            Checked::Fine(p)
+        }
+    }
+}
+
+// Numbers 1 to 5.
+pub fn use_number(b: &[u8]) -> u32
+    ensures { λ r. ⌜ Gate (useTests (now (b .entry))) r ⌝ }
+{
+    let found = judge(b, 0, 5);
+    match found {
+        Checked::Refused(n) => n,
+        Checked::Fine(_places) => 0,
+    }
+}

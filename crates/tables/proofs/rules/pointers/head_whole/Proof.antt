@@ -1,7 +1,0 @@
-use Rattle.tables.proofs.ZonePartLaws.{head-none, head-here}
-use borrow.Author.Needs.{needs}
-use Rattle.tables.proofs.rules.pointers.head_whole.Statement.{statement}
-use Rattle.tables.proofs.rules.pointers.head_whole.Tie as tie
-
-pub head-whole-spec : {M : Type 1} → statement M
-head-whole-spec = tie.close (tie.spec (λ c. search head-none) (λ c. search needs) (λ c. search head-here))

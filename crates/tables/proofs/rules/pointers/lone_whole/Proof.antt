@@ -1,7 +1,0 @@
-use Rattle.tables.proofs.ZonePartLaws.{lone-cut, lone-says}
-use borrow.Author.Needs.{needs}
-use Rattle.tables.proofs.rules.pointers.lone_whole.Statement.{statement}
-use Rattle.tables.proofs.rules.pointers.lone_whole.Tie as tie
-
-pub lone-whole-spec : {M : Type 1} → statement M
-lone-whole-spec = tie.close (tie.spec (λ c. search needs) (λ c. search lone-cut) (λ c. search needs) (λ c. search lone-says))

@@ -1,7 +1,0 @@
-use Rattle.tables.proofs.ZonePartLaws.{tail-far, tail-here}
-use borrow.Author.Needs.{needs}
-use Rattle.tables.proofs.rules.pointers.tail_whole.Statement.{statement}
-use Rattle.tables.proofs.rules.pointers.tail_whole.Tie as tie
-
-pub tail-whole-spec : {M : Type 1} → statement M
-tail-whole-spec = tie.close (tie.spec (λ c. search needs) (λ c. search tail-far) (λ c. search needs) (λ c. search tail-here))

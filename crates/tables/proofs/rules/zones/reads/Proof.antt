@@ -1,7 +1,0 @@
-use Rattle.tables.proofs.ZoneLaws.{reads-says}
-use borrow.Author.Needs.{needs}
-use Rattle.tables.proofs.rules.zones.reads.Statement.{statement}
-use Rattle.tables.proofs.rules.zones.reads.Tie as tie
-
-pub reads-spec : {M : Type 1} → statement M
-reads-spec = tie.close (tie.spec (λ c. search needs) (λ c. search needs) (λ c. search reads-says))

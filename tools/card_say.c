@@ -27,11 +27,16 @@ int say_refusal(uint32_t number) {
     return CARD_REFUSED;
 }
 
+/* The start of a line, and the text: what ends the line is the caller's. */
+static void say_text(const char *format, va_list values) {
+    say_start();
+    vfprintf(stderr, format, values);
+}
+
 int say_failure(const char *format, ...) {
     va_list values;
-    say_start();
     va_start(values, format);
-    vfprintf(stderr, format, values);
+    say_text(format, values);
     va_end(values);
     fputc('\n', stderr);
     return CARD_REFUSED;
@@ -44,9 +49,8 @@ int say_system(const char *path) {
 
 int say_misuse(const char *format, ...) {
     va_list values;
-    say_start();
     va_start(values, format);
-    vfprintf(stderr, format, values);
+    say_text(format, values);
     va_end(values);
     if (command != NULL)
         fprintf(stderr, "; see `card %s --help`\n", command);
@@ -57,9 +61,8 @@ int say_misuse(const char *format, ...) {
 
 void say_note(const char *format, ...) {
     va_list values;
-    say_start();
     va_start(values, format);
-    vfprintf(stderr, format, values);
+    say_text(format, values);
     va_end(values);
     fputc('\n', stderr);
 }

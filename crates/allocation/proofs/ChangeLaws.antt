@@ -23,14 +23,14 @@ use Rattle.tables.specs.Views.{View, Begins, Free, Parent, Child, walk, next, o
 use Rattle.tables.specs.Rules.R4.{R4}
 use Rattle.tables.specs.Rules.R5.{Full, FileChain, Stands, R5}
 use Rattle.tables.specs.Rules.R6.{Run, R6}
-use Rattle.tables.specs.Rules.R8.{fileSectors, File, FileLaw}
+use Rattle.tables.specs.Rules.R8.{fileSectors, InType, File, FileLaw}
 use Rattle.tables.specs.Rules.R9.{freeOne, activeOne, deletedOne, systemOne, directoryOne, R9}
 use Rattle.tables.proofs.ChainLaws.{walk-same, walk-none}
 use Rattle.tables.proofs.IndexLaws.{slots-parent, slots-in, file-free, file-parent, file-child}
 use Rattle.tables.proofs.Sector1CountLaws.{Ones, only-eq, only-ne, ones-other, free-yes, free-no}
 use Rattle.allocation.specs.declared.growth.Cursor.{Cursor}
 use Rattle.allocation.specs.Steps.{SameCounts}
-use Rattle.allocation.specs.Held.{ShapeBut, Held, Ends, InType}
+use Rattle.allocation.specs.Held.{ShapeBut, Held, Ends}
 use Rattle.allocation.proofs.ChainedLaws.{FreeBut, tally-part, free-but, kept-R4, popped-R4}
 use Rattle.allocation.proofs.FileSame.{file-same}
 use Rattle.allocation.proofs.PointerBytes.{word-kept, parent-kept, slots-kept, file-kept, start-kept, count-kept}

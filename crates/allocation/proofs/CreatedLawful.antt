@@ -7,11 +7,10 @@ use lib.ListN.{length, List·getD-eq-default}
 use Rattle.tables.specs.declared.places.Places.{Places}
 use Rattle.tables.specs.Names.{Name, NewName}
 use Rattle.tables.specs.Places.{Layout}
-use Rattle.tables.specs.Indexes.{tableAt, Used}
+use Rattle.tables.specs.Indexes.{tableAt, Used, systemBit, directoryBit}
 use Rattle.tables.specs.Sector1.{firstFreeOf}
 use Rattle.tables.specs.Views.{View, viewOf}
 use Rattle.tables.specs.Rules.R8.{fileSectors, FileLaw}
-use Rattle.tables.specs.Indexes.{systemBit, directoryBit}
 use Rattle.tables.specs.Lawful.{Lawful}
 use Rattle.tables.proofs.BlockLaws.{block-of}
 use Rattle.tables.proofs.IndexLaws.{length-table}

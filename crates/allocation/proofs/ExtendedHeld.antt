@@ -16,8 +16,7 @@ use Rattle.tables.specs.Views.{View, Begins, Free, Parent, Child, walk, next, c
 use Rattle.tables.specs.Rules.R5.{Full, FileChain, Stands, R5}
 use Rattle.tables.specs.Rules.R6.{Run}
 use Rattle.tables.specs.Rules.R9.{freeOne}
-use Rattle.tables.proofs.ChainLaws.{walk-same, walk-once}
-use Rattle.tables.proofs.ChainLaws.{chain-one}
+use Rattle.tables.proofs.ChainLaws.{walk-same, walk-once, chain-one}
 use Rattle.tables.proofs.IndexLaws.{slots-child, base-child, file-child}
 use Rattle.tables.proofs.PointerLaws.{cov-none, over-none}
 use Rattle.tables.proofs.Sector1CountLaws.{only-ne, ones-other}

@@ -14,12 +14,11 @@ use Rattle.field.proofs.Sums.{sum-le, sum-part}
 use Rattle.tables.specs.declared.places.Places.{Places}
 use Rattle.tables.specs.declared.kinds.Index.{Index}
 use Rattle.tables.specs.Kinds.{firstOf}
-use Rattle.tables.specs.Blocks.{Typed, blockOf}
+use Rattle.tables.specs.Blocks.{Typed, blockOf, perZone}
 use Rattle.tables.specs.Indexes.{slotsOf, baseOf, directoryBit, systemBit, pointerPlace}
 use Rattle.tables.specs.Open.{isOpen, openZones}
 use Rattle.tables.specs.Places.{Layout}
 use Rattle.tables.specs.Room.{countAt, spareIn, spareOf, lackOf, Enough}
-use Rattle.tables.specs.Blocks.{perZone}
 use Rattle.tables.specs.Sector1.{freeOf, firstFreeOf, activeOf, systemOf, directoryOf}
 use Rattle.tables.specs.Views.{View, viewOf, Begins, Free, Parent, onlyIf}
 use Rattle.tables.specs.Lawful.{Lawful}
@@ -29,7 +28,7 @@ use Rattle.tables.specs.Rules.R9.{activeOne, systemOne, directoryOne}
 use Rattle.tables.proofs.BlockLaws.{six}
 use Rattle.tables.proofs.ChoiceLaws.{ceil-enough}
 use Rattle.tables.proofs.Sector1CountLaws.{only-le, tally-few, active-le, system-le, directory-le}
-use Rattle.tables.proofs.IndexLaws.{slots-free, slots-in}
+use Rattle.tables.proofs.IndexLaws.{slots-free, slots-in, base-low}
 use Rattle.tables.proofs.LackLaws.{some-blocks, in-open, in-other, in-begun}
 use Rattle.allocation.specs.declared.tail.Tail.{Tail}
 use Rattle.allocation.specs.declared.growth.Cursor.{Cursor}
@@ -47,7 +46,6 @@ use Rattle.allocation.proofs.FindLaws.{either}
 use Rattle.allocation.proofs.NextGround.{stocked-ground}
 use Rattle.allocation.proofs.OrderLaws.{order-typed, order-enough}
 use Rattle.allocation.proofs.LastLaws.{last-table, used-le, used-before, slots-end, last-shape, last-some}
-use Rattle.tables.proofs.IndexLaws.{base-low}
 use Rattle.allocation.proofs.ChangeLaws.{member-begins}
 use Rattle.allocation.proofs.StepLaws.{parent-popped, length-putNewParent, length-countFile, parent-made}
 use Rattle.allocation.proofs.PlanLaws.{tables-least, tables-ground}

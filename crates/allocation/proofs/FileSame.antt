@@ -5,7 +5,7 @@ use Prim.Native.Nat.{ℕ}
 use Rattle.tables.specs.Kinds.{zoneOf}
 use Rattle.tables.specs.Indexes.{startOf, fileOf}
 use Rattle.tables.specs.Views.{View, Under}
-use Rattle.tables.specs.Rules.R8.{fileSectors, fileType, OneType, File}
+use Rattle.tables.specs.Rules.R8.{fileSectors, fileType, InType, File}
 
 module _ (v v' : View) (types : (i j s : ℕ) → Under v i j s → v' .zone (zoneOf s) .ztype ≡ v .zone (zoneOf s) .ztype)
     (p : ℕ) (first : Under v p 0 (startOf p (v .table p) 0)) (same : v' .table p ≡ v .table p)
@@ -14,7 +14,7 @@ module _ (v v' : View) (types : (i j s : ℕ) → Under v i j s → v' .zone (zo
   unfolding fileType
   type-same = ap (λ (t : List ℕ). v' .zone (zoneOf (startOf p t 0)) .ztype) same ∙ types p 0 _ first
 
-  one-same : OneType v p → OneType v' p
+  one-same : InType v p (fileType v p) → InType v' p (fileType v' p)
   one-same all i j s of u = let w = under i j s of u in types i j s (w .1) ∙ all i j s (w .0) (w .1) ∙ sym type-same
 
   pub file-same : fileSectors v' p ≡ fileSectors v p → File v p (v .table p) → File v' p (v' .table p)

@@ -16,7 +16,7 @@ use Rattle.field.proofs.NumberLaws.{u32-kept}
 use Rattle.tables.specs.declared.places.Places.{Places}
 use Rattle.tables.specs.declared.zone.ZoneEntry.{ZoneEntry}
 use Rattle.tables.specs.Format.{Label, Formattable, Writable, freshPlaces, formatted}
-use Rattle.tables.specs.Indexes.{tableAt}
+use Rattle.tables.specs.Indexes.{tableAt, systemBit, directoryBit}
 use Rattle.tables.specs.Places.{Layout}
 use Rattle.tables.specs.Room.{countAt, Enough}
 use Rattle.tables.specs.Same.{Same, Ground}
@@ -25,7 +25,6 @@ use Rattle.tables.specs.Views.{View, viewOf}
 use Rattle.tables.specs.Zones.{zoneAt}
 use Rattle.tables.specs.Rules.R2.{Reads, Untyped, ZoneLaw, R2}
 use Rattle.tables.specs.Rules.R3.{R3}
-use Rattle.tables.specs.Indexes.{systemBit, directoryBit}
 use Rattle.tables.specs.Rules.R9.{freeOne}
 use Rattle.tables.proofs.SameLaws.{ground-R2, ground-R3, same-ground, same-R4, same-tally}
 use Rattle.tables.proofs.FrameLaws.{sector1-same}

@@ -17,10 +17,9 @@ use Rattle.tables.specs.Blocks.{Typed, blockOf}
 use Rattle.tables.specs.Counts.{blockBytes}
 use Rattle.tables.specs.Dates.{Date}
 use Rattle.tables.specs.Places.{Layout}
-use Rattle.tables.specs.Indexes.{tablePlace, tableAt, putChanged, nameOf, createdOf, changedOf, lengthOf, attributeOf, Used}
+use Rattle.tables.specs.Indexes.{tablePlace, tableAt, putChanged, nameOf, createdOf, changedOf, lengthOf, attributeOf, Used, variableBit}
 use Rattle.tables.specs.Views.{View, viewOf, Parent}
-use Rattle.tables.specs.Rules.R8.{fileSectors, fileType, OneType, File}
-use Rattle.tables.specs.Indexes.{variableBit}
+use Rattle.tables.specs.Rules.R8.{fileSectors, fileType, InType, File}
 use Rattle.tables.specs.Lawful.{Lawful}
 use Rattle.tables.proofs.BlockLaws.{block-of}
 use Rattle.tables.proofs.ChoiceLaws.{ceil-enough}
@@ -202,7 +201,7 @@ module _ (p : Places) (b : List ℕ) (f : ℕ) (counts : List ℕ) (long : ℕ) 
     was-file : File (viewOf p b) f (tableAt p b f)
     was-file = old .r8 f (omega (arith, parent .high)) (parent .low) (parent .word)
 
-    one : OneType (viewOf p c) f
+    one : InType (viewOf p c) f (fileType (viewOf p c) f)
     one =
         let t = fileType (viewOf p b) f in
         in-one (viewOf p c) f held now-parent used t (restated-types (viewOf p a) (viewOf p c) f (resized .restated) (lay .few) (h .ends .parent) (h .held) t

@@ -20,23 +20,21 @@ use Rattle.tables.specs.Each.{Each}
 use Rattle.tables.specs.Dates.{Date}
 use Rattle.tables.specs.Names.{Name}
 use Rattle.tables.specs.Places.{placesOf}
-use Rattle.tables.specs.Indexes.{parentOf, nameOf, createdOf, changedOf, lengthOf, attributeOf, slotsOf, startOf, countOf, Used, sectorsOf, fileOf}
+use Rattle.tables.specs.Indexes.{parentOf, nameOf, createdOf, changedOf, lengthOf, attributeOf, slotsOf, startOf, countOf, Used, sectorsOf, fileOf, variableBit, directoryBit, systemBit}
 use Rattle.tables.specs.Views.{View, viewOf, Parent, Child, walk, next, onlyIf, tally}
 use Rattle.tables.specs.Rules.R1.{R1}
 use Rattle.tables.specs.Rules.R4.{Own}
 use Rattle.tables.specs.Rules.R5.{R5}
 use Rattle.tables.specs.Rules.R6.{R6, Run}
-use Rattle.tables.specs.Rules.R8.{fileSectors, fileType, OneType, File, FileLaw, R8}
-use Rattle.tables.specs.Indexes.{variableBit, directoryBit, systemBit}
+use Rattle.tables.specs.Rules.R8.{fileSectors, fileType, InType, File, FileLaw, R8}
 use Rattle.tables.specs.Lawful.{Lawful}
 use Rattle.tables.specs.Books.{Good}
-use Rattle.tables.proofs.ChainLaws.{walk-none}
-use Rattle.tables.proofs.ChainLaws.{chain-one}
+use Rattle.tables.proofs.ChainLaws.{walk-none, chain-one}
 use Rattle.tables.proofs.Sector1CountLaws.{only-eq, only-ne}
 use Rattle.allocation.specs.declared.growth.Cursor.{Cursor}
 use Rattle.allocation.specs.Choice.{inOrder}
 use Rattle.allocation.specs.MadeFiles.{onlyCounts}
-use Rattle.allocation.specs.Held.{Held, Ends, InType, nothing}
+use Rattle.allocation.specs.Held.{Held, Ends, nothing}
 use Rattle.allocation.specs.Lengthened.{sectorsIn, AllOf, Quiet}
 use Rattle.allocation.proofs.FileLaws.{order-only}
 use Rattle.allocation.proofs.SizeLaws.{run-typed}
@@ -202,7 +200,7 @@ module _ (v : View) (f : ℕ) (h : Held v f nothing) (parent : Parent v f) (used
   unfolding fileType
   in-file t all = all f 0 (startOf f (v .table f) 0) (parent-file v f parent) (first-under v f parent first-run)
 
-  pub in-one : (t : ℕ) → InType v f t → OneType v f
+  pub in-one : (t : ℕ) → InType v f t → InType v f (fileType v f)
   in-one t all i j s e u = all i j s e u ∙ sym (in-file t all)
 
   pub file-typed : Typed (fileType v f)
@@ -266,7 +264,7 @@ same-date t d at size fits e date =
 
 -- what R8 asks of them
 pub fields-file : (v : View) (f : ℕ) (t name created changed : List ℕ) (long attribute : ℕ) → Fields t name created changed long attribute → Name name → Date created → Date changed
-    → long < 2147483648 → long ≤ 1024 * fileSectors v f → (variableBit attribute ≡ 0 → 1 ≤ long) → (variableBit attribute ≡ 1 → OneType v f)
+    → long < 2147483648 → long ≤ 1024 * fileSectors v f → (variableBit attribute ≡ 0 → 1 ≤ long) → (variableBit attribute ≡ 1 → InType v f (fileType v f))
     → attribute < 128 → directoryBit attribute + systemBit attribute ≤ 1 → File v f t
 fields-file v f t name created changed long attribute h n c d least most fixed variable weights both = record {
   name = same-name name (nameOf t) (λ k l. getD-part t 4 24 k l ∙ h .name' k l) n;

@@ -9,7 +9,7 @@ use native.Mathlib.Omega.{arith}
 use lib.ListN.{length}
 use Rattle.field.proofs.Frames.{kept-refl}
 use Rattle.field.proofs.Sums.{sum-zero}
-use Rattle.tables.specs.Indexes.{wordOf, parentOf, attributeOf, minus, slotsOf, baseOf, startOf, countOf, Used, sectorsOf, fileOf}
+use Rattle.tables.specs.Indexes.{wordOf, parentOf, attributeOf, minus, slotsOf, baseOf, startOf, countOf, Used, sectorsOf, fileOf, systemBit, directoryBit}
 use Rattle.tables.specs.Views.{View, Free, Parent, Child, walk, next, tally, overOf, Under}
 use Rattle.tables.specs.Rules.R2.{R2}
 use Rattle.tables.specs.Rules.R3.{R3}
@@ -17,8 +17,7 @@ use Rattle.tables.specs.Rules.R4.{R4}
 use Rattle.tables.specs.Rules.R5.{FileChain, R5}
 use Rattle.tables.specs.Rules.R6.{R6}
 use Rattle.tables.specs.Rules.R7.{R7}
-use Rattle.tables.specs.Rules.R8.{fileSectors, R8}
-use Rattle.tables.specs.Indexes.{systemBit, directoryBit}
+use Rattle.tables.specs.Rules.R8.{fileSectors, InType, R8}
 use Rattle.tables.specs.Rules.R9.{freeOne, R9}
 use Rattle.tables.proofs.ChainLaws.{walk-none}
 use Rattle.tables.proofs.IndexLaws.{slots-parent, base-parent, file-parent}
@@ -28,7 +27,7 @@ use Rattle.tables.proofs.SameLaws.{ground-R2, ground-R3}
 use Rattle.allocation.specs.NewTables.{New}
 use Rattle.allocation.specs.NextPointer.{noPointer}
 use Rattle.allocation.specs.Steps.{parentBytes, Made}
-use Rattle.allocation.specs.Held.{ShapeBut, Held, nothing, Ends, InType}
+use Rattle.allocation.specs.Held.{ShapeBut, Held, nothing, Ends}
 use Rattle.allocation.proofs.PointerBytes.{parent-word, parent-attribute, parent-zero32, parent-zero16, parent-header}
 use Rattle.allocation.proofs.ChainedLaws.{head-free}
 use Rattle.allocation.proofs.ChangeLaws.{Changed, free-file, parent-file, child-file, begins-was, file-there, parent-there, pop-R4, changed-R5, changed-R6, pointers-at, sectors-at, changed-R8, free-less, changed-R9}

@@ -11,11 +11,10 @@ use borrow.Author.Tests.{lt-ltb, le-ltb, ltb-true, eq-eqb, ne-eqb}
 use Rattle.tables.specs.declared.kinds.Zone.{Zone}
 use Rattle.tables.specs.declared.places.Places.{Places}
 use Rattle.tables.specs.declared.zone.ZoneEntry.{ZoneEntry}
-use Rattle.tables.specs.Blocks.{Typed, blockOf, Block}
+use Rattle.tables.specs.Blocks.{Typed, blockOf, Block, perZone}
 use Rattle.tables.specs.Kinds.{firstOf}
 use Rattle.tables.specs.Open.{isOpen}
 use Rattle.tables.specs.Room.{spareIn}
-use Rattle.tables.specs.Blocks.{perZone}
 use Rattle.tables.specs.Views.{View, viewOf}
 use Rattle.tables.proofs.BlockLaws.{block-of, block-in}
 use Rattle.tables.proofs.LackLaws.{in-open, in-other, in-begun}

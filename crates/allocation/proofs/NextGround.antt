@@ -10,10 +10,9 @@ use Rattle.field.specs.Sum.{sumTo}
 use Rattle.field.proofs.Sums.{sum-same}
 use Rattle.tables.specs.declared.zone.ZoneEntry.{ZoneEntry}
 use Rattle.tables.specs.Kinds.{firstOf}
-use Rattle.tables.specs.Blocks.{blockOf}
+use Rattle.tables.specs.Blocks.{blockOf, perZone}
 use Rattle.tables.specs.Open.{isOpen, openZones}
 use Rattle.tables.specs.Room.{spareIn, spareOf, lackOf, Enough}
-use Rattle.tables.specs.Blocks.{perZone}
 use Rattle.tables.specs.Rules.R1.{ceil}
 use Rattle.tables.specs.Same.{Ground}
 use Rattle.tables.specs.Views.{View, cov, onlyIf}

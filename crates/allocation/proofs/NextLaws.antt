@@ -10,10 +10,9 @@ use native.Mathlib.Omega.{arith}
 use borrow.Author.Tests.{eqb-true, eqb-false, eq-eqb, ne-eqb, ltb-false}
 use Rattle.field.proofs.Sums.{sum-zero, sum-one, sum-le, sum-some, sum-part}
 use Rattle.tables.specs.Kinds.{firstOf}
-use Rattle.tables.specs.Blocks.{Typed, Block, blockOf}
+use Rattle.tables.specs.Blocks.{Typed, Block, blockOf, perZone}
 use Rattle.tables.specs.Open.{isOpen, openZones}
 use Rattle.tables.specs.Room.{spareIn, spareOf, lackOf}
-use Rattle.tables.specs.Blocks.{perZone}
 use Rattle.tables.specs.Rules.R3.{Blocks}
 use Rattle.tables.specs.Views.{View, onlyIf}
 use Rattle.tables.proofs.BlockLaws.{block-of, block-in}

@@ -9,9 +9,8 @@ use native.Mathlib.Omega.{arith}
 use lib.ListN.{length, getD, replicate}
 use borrow.Author.Tests.{eq-eqb, ne-eqb}
 use Rattle.field.proofs.Sums.{sum-same}
-use Rattle.tables.specs.Blocks.{Typed}
+use Rattle.tables.specs.Blocks.{Typed, perZone}
 use Rattle.tables.specs.Room.{countAt, spareOf, lackOf, Enough}
-use Rattle.tables.specs.Blocks.{perZone}
 use Rattle.tables.specs.Rules.R1.{ceil}
 use Rattle.tables.specs.Views.{View, onlyIf}
 use Rattle.tables.proofs.ChoiceLaws.{ceil-least, ceil-enough, sum-mono}

@@ -15,12 +15,12 @@ use Rattle.tables.specs.Same.{Ground}
 use Rattle.tables.specs.Indexes.{wordOf, parentOf, minus, slotsOf, baseOf, startOf, countOf, Used, sectorsOf, fileOf}
 use Rattle.tables.specs.Views.{View, Parent, Child, walk, next, cov, overOf, Under}
 use Rattle.tables.specs.Rules.R5.{Stands}
-use Rattle.tables.specs.Rules.R8.{fileSectors}
+use Rattle.tables.specs.Rules.R8.{fileSectors, InType}
 use Rattle.tables.specs.Rules.R9.{R9}
 use Rattle.tables.proofs.Sector1CountLaws.{only-eq}
 use Rattle.tables.proofs.SameLaws.{ground-R2, ground-R3}
 use Rattle.tables.proofs.IndexLaws.{base-parent}
-use Rattle.allocation.specs.Held.{ShapeBut, Held, InType, nothing}
+use Rattle.allocation.specs.Held.{ShapeBut, Held, nothing}
 use Rattle.allocation.proofs.PointerBytes.{word-kept, parent-kept, slots-kept, file-kept, start-kept, count-kept}
 use Rattle.allocation.proofs.ChangeLaws.{Changed, Stays, stays-same, member-begins, parent-file, ground-run, walk-stays, chain-stays, parent-there, begins-was, stay-R4, changed-R5, changed-R6, pointers-at, sectors-at, under-zone, changed-types, changed-R8}
 

@@ -12,10 +12,9 @@ use Rattle.field.specs.Sum.{sumTo}
 use Rattle.field.proofs.Sums.{sum-at}
 use Rattle.tables.specs.declared.zone.ZoneEntry.{ZoneEntry}
 use Rattle.tables.specs.Kinds.{firstOf}
-use Rattle.tables.specs.Blocks.{Typed, Block, blockOf}
+use Rattle.tables.specs.Blocks.{Typed, Block, blockOf, perZone}
 use Rattle.tables.specs.Open.{isOpen, openZones}
 use Rattle.tables.specs.Room.{spareIn, spareOf, lackOf, Enough}
-use Rattle.tables.specs.Blocks.{perZone}
 use Rattle.tables.specs.Rules.R1.{ceil}
 use Rattle.tables.specs.Rules.R2.{R2}
 use Rattle.tables.specs.Rules.R3.{R3, Blocks}

@@ -17,9 +17,8 @@ use Rattle.tables.specs.Places.{Layout}
 use Rattle.tables.specs.Indexes.{tablePlace, tableAt, minus, putWord, putParent, putLink}
 use Rattle.tables.specs.Sector1.{firstFreeOf}
 use Rattle.tables.specs.Views.{viewOf}
-use Rattle.tables.proofs.IndexLaws.{minus-is}
+use Rattle.tables.proofs.IndexLaws.{minus-is, length-table}
 use Rattle.tables.proofs.FrameLaws.{table-kept}
-use Rattle.tables.proofs.IndexLaws.{length-table}
 use Rattle.allocation.specs.NewTables.{takeTable, putChild}
 use Rattle.allocation.specs.Ready.{Head}
 use Rattle.allocation.specs.Steps.{SameCounts, SameFiles}

@@ -17,7 +17,7 @@ use Rattle.tables.specs.Rules.R3.{R3}
 use Rattle.tables.specs.Rules.R4.{R4}
 use Rattle.tables.specs.Rules.R5.{FileChain, R5}
 use Rattle.tables.specs.Rules.R6.{Run}
-use Rattle.tables.specs.Rules.R8.{fileSectors, File}
+use Rattle.tables.specs.Rules.R8.{fileSectors, InType, File}
 use Rattle.tables.specs.Rules.R9.{freeOne, activeOne, deletedOne, systemOne, directoryOne, R9}
 use Rattle.tables.proofs.BlockLaws.{block-of, block-end, block-in}
 use Rattle.tables.proofs.ChainLaws.{walk-same}
@@ -27,7 +27,7 @@ use Rattle.allocation.specs.declared.choice.Found.{Found}
 use Rattle.allocation.specs.declared.growth.Cursor.{Cursor}
 use Rattle.allocation.specs.Choice.{blockStart}
 use Rattle.allocation.specs.Steps.{Choosable, Taken, SameFiles}
-use Rattle.allocation.specs.Held.{ShapeBut, Held, Ends, InType}
+use Rattle.allocation.specs.Held.{ShapeBut, Held, Ends}
 use Rattle.allocation.proofs.LastLaws.{chain-begins}
 use Rattle.allocation.proofs.FileSame.{file-same}
 use Rattle.allocation.proofs.ChangeLaws.{under-run, other-under}

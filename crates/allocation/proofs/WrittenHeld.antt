@@ -16,16 +16,16 @@ use Rattle.tables.specs.Indexes.{wordOf, parentOf, minus, slotsOf, baseOf, star
 use Rattle.tables.specs.Views.{View, Begins, Parent, Child, walk, next, cov, overOf, Under}
 use Rattle.tables.specs.Rules.R5.{FileChain, Stands, R5}
 use Rattle.tables.specs.Rules.R6.{Run}
+use Rattle.tables.specs.Rules.R8.{InType}
 use Rattle.tables.proofs.ChainLaws.{chain-one}
-use Rattle.tables.proofs.IndexLaws.{slots-in, base-parent}
+use Rattle.tables.proofs.IndexLaws.{slots-in, base-parent, base-low}
 use Rattle.tables.proofs.PointerLaws.{cov-cases, cov-in, cov-none, cov-join}
 use Rattle.tables.proofs.Sector1CountLaws.{only-eq}
 use Rattle.tables.proofs.SameLaws.{ground-R2, ground-R3}
 use Rattle.allocation.specs.declared.growth.Cursor.{Cursor}
 use Rattle.allocation.specs.NextPointer.{placeOf}
 use Rattle.allocation.specs.Steps.{Written}
-use Rattle.allocation.specs.Held.{ShapeBut, Held, Ends, InType}
-use Rattle.tables.proofs.IndexLaws.{base-low}
+use Rattle.allocation.specs.Held.{ShapeBut, Held, Ends}
 use Rattle.allocation.proofs.LastLaws.{slots-end}
 use Rattle.allocation.proofs.EndsLaws.{end-begins, end-file, end-more, next-place, last-place, last-start, last-count}
 use Rattle.allocation.proofs.PointerBytes.{word-kept, parent-kept, slots-kept, file-kept, kept-pointer, pointer-read, start-others, count-others, start-slot, count-slot}

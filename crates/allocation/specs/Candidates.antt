@@ -2,9 +2,8 @@
 use mathlib.Core.Path.{_≡_}
 use mathlib.Core.Bool.{false}
 use Prim.Native.Nat.{ℕ, _≤_, _<_}
-use Rattle.tables.specs.Blocks.{Typed}
+use Rattle.tables.specs.Blocks.{Typed, perZone}
 use Rattle.tables.specs.Views.{View}
-use Rattle.tables.specs.Blocks.{perZone}
 use Rattle.allocation.specs.declared.choice.Found.{Found}
 use Rattle.allocation.specs.Choice.{begun, isClear}
 

@@ -7,13 +7,12 @@ use lib.Dec.{eqb, ltb}
 use lib.ListN.{length, replicate}
 use Rattle.tables.specs.declared.places.Places.{Places}
 use Rattle.tables.specs.Kinds.{firstOf}
-use Rattle.tables.specs.Blocks.{typeAt, blockOf}
+use Rattle.tables.specs.Blocks.{typeAt, blockOf, perZone}
 use Rattle.tables.specs.Zones.{putZone}
 use Rattle.tables.specs.Sectors.{putSectors}
 use Rattle.tables.specs.Views.{View}
 use Rattle.tables.specs.Open.{isOpen}
 use Rattle.tables.specs.Room.{spareIn}
-use Rattle.tables.specs.Blocks.{perZone}
 use Rattle.allocation.specs.declared.choice.Found.{Found}
 use Rattle.allocation.specs.Find.{find}
 

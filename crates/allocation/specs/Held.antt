@@ -6,16 +6,15 @@ use mathlib.Core.List.{List}
 use Prim.Native.Nat.{ℕ, suc, _+_, _-_, _*_, _≤_, _<_}
 use lib.ListN.{getD}
 use Rattle.field.specs.Parts.{AllBytes}
-use Rattle.tables.specs.Kinds.{zoneOf}
 use Rattle.tables.specs.Each.{Each}
-use Rattle.tables.specs.Indexes.{wordOf, slotsOf, startOf, countOf, Used, fileOf, pointerAt}
-use Rattle.tables.specs.Views.{View, Parent, walk, next, pointersOver, Under}
+use Rattle.tables.specs.Indexes.{wordOf, slotsOf, startOf, countOf, Used, pointerAt}
+use Rattle.tables.specs.Views.{View, Parent, walk, next, pointersOver}
 use Rattle.tables.specs.Rules.R2.{R2}
 use Rattle.tables.specs.Rules.R3.{R3}
 use Rattle.tables.specs.Rules.R4.{R4}
 use Rattle.tables.specs.Rules.R5.{R5, FileChain}
 use Rattle.tables.specs.Rules.R6.{Run}
-use Rattle.tables.specs.Rules.R8.{FileLaw, fileSectors}
+use Rattle.tables.specs.Rules.R8.{FileLaw, fileSectors, InType}
 use Rattle.tables.specs.Rules.R9.{R9}
 use Rattle.allocation.specs.declared.growth.Cursor.{Cursor}
 use Rattle.allocation.specs.NextPointer.{placeOf}
@@ -55,10 +54,6 @@ pub record Ends (v : View) (f : ℕ) (c : Cursor) : Type 0 where
   pub unused : (j : ℕ) → j < slotsOf (c .table .0) (v .table (c .table .0)) → c .tail .slot ≤ j → Used (c .table .0) (v .table (c .table .0)) j → ⊥
   pub pointer : 1 ≤ c .tail .slot → c .tail .last ≡ pointerAt (v .table (c .table .0)) (placeOf (c .tail))
   pub none : c .tail .slot ≡ 0 → (c .tail .last .start .0 + c .tail .last .count ≡ 0) × (long ≡ 0)
-
--- every sector of file f lies in a zone of type t
-abbrev pub InType : View → ℕ → ℕ → Type 0
-InType v f t = (i j s : ℕ) → fileOf i (v .table i) ≡ f → Under v i j s → v .zone (zoneOf s) .ztype ≡ t
 
 -- file f has n sectors more, of type t; its parent's first 58 bytes stay
 pub record Grown (v v' : View) (f n t : ℕ) : Type 0 where

@@ -7,9 +7,9 @@ use Rattle.tables.specs.declared.places.Places.{Places}
 use Rattle.tables.specs.Blocks.{blockOf}
 use Rattle.tables.specs.Views.{viewOf}
 use Rattle.tables.specs.Rules.R1.{Stand, Tails}
-use Rattle.tables.specs.Rules.R8.{fileSectors}
+use Rattle.tables.specs.Rules.R8.{fileSectors, InType}
 use Rattle.allocation.specs.Growth.{Growth}
-use Rattle.allocation.specs.Held.{Held, Ends, InType, nothing}
+use Rattle.allocation.specs.Held.{Held, Ends, nothing}
 
 -- the sectors of blocks of these types
 unfoldable pub sectorsIn : List ℕ → ℕ

@@ -7,8 +7,7 @@ use Prim.Native.Nat.{ℕ, _+_, _*_, _≤_, _<_}
 use lib.ListN.{length}
 use Rattle.tables.specs.Dates.{Date}
 use Rattle.tables.specs.Names.{NewName}
-use Rattle.tables.specs.Indexes.{variableBit, directoryBit, systemBit}
-use Rattle.tables.specs.Indexes.{deletedBit}
+use Rattle.tables.specs.Indexes.{variableBit, directoryBit, systemBit, deletedBit}
 use Rattle.allocation.specs.Choice.{inOrder}
 use Rattle.allocation.specs.NewTables.{New}
 use Rattle.allocation.specs.Lengthened.{sectorsIn, AllOf}

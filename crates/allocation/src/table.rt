@@ -55,8 +55,8 @@ fn put_dates(b: &mut [u8], p: Places, i: Index, date: &[u8])
     requires { ⌜ (1 ≤ i .0) × (i .0 ≤ p .indexes) × (length (now date) ≡ 6) ⌝ }
     ensures { λ _. ⌜ now (b .exit) ≡ putDates p (now (b .entry)) (i .0) (now (date .entry)) ⌝ }
 {
-    index::put_created(b, p, i, date);
-    index::put_changed(b, p, i, date);
+    index::put_creation_date(b, p, i, date);
+    index::put_change_date(b, p, i, date);
 }
 
 fn put_size(b: &mut [u8], p: Places, i: Index, long: u32, attribute: u32)
@@ -111,7 +111,7 @@ pub fn put_change(b: &mut [u8], p: Places, f: Index, long: u32, date: &[u8])
     requires { ⌜ (1 ≤ f .0) × (f .0 ≤ p .indexes) × (length (now date) ≡ 6) ⌝ }
     ensures { λ _. ⌜ now (b .exit) ≡ putChange p (now (b .entry)) (f .0) long (now (date .entry)) ⌝ }
 {
-    index::put_changed(b, p, f, date);
+    index::put_change_date(b, p, f, date);
     index::put_length(b, p, f, long);
     sector1::put_latest(b, date);
 }

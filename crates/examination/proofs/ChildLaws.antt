@@ -15,12 +15,10 @@ use Rattle.field.proofs.NumberLaws.{getD-zeros}
 use borrow.Author.Tests.{not-true, not-false}
 use Rattle.tables.specs.declared.index.Pointer.{Pointer}
 use Rattle.tables.specs.declared.entry.Entry.{Entry}
-use Rattle.tables.specs.Entries.{entryOf}
-use Rattle.tables.specs.Entries.{isParent, isChild}
-use Rattle.tables.specs.Indexes.{wordOf, parentOf, linkOf, slotsOf, baseOf, pointerAt, Used}
+use Rattle.tables.specs.Entries.{entryOf, isParent, isChild}
+use Rattle.tables.specs.Indexes.{wordOf, parentOf, linkOf, slotsOf, baseOf, pointerAt, UsedAt, Used}
 use Rattle.tables.specs.Each.{Each}
 use Rattle.tables.specs.Views.{View, Parent, Child, walk, next}
-use Rattle.examination.specs.Slots.{UsedAt}
 use Rattle.examination.specs.Met.{MarkedAt, SomeUsed, ChildMet, Follows, InChain, Passed, Before, Starts, Passes}
 use Rattle.tables.specs.Rules.R5.{Full, FileChain, Stands, R5}
 use Rattle.tables.proofs.KindLaws.{parent-word, not-parent, child-word, not-child}

@@ -1,7 +1,7 @@
 -- Sector 1's counts made anew: how the pass goes on and ends.
 use mathlib.Core.Path.{_≡_, refl, sym, _∙_}
 use mathlib.Core.Bool.{Bool, true, false, not}
-use Prim.Native.Nat.{ℕ, _+_, _-_, _/_, _%_, _≤_}
+use Prim.Native.Nat.{ℕ, _+_, _/_, _%_, _≤_}
 use native.Mathlib.Omega.{arith}
 use mathlib.Core.List.{List}
 use borrow.Author.Tests.{not-true, not-false}
@@ -11,9 +11,8 @@ use Rattle.examination.specs.declared.counts.Counts.{Counts}
 use Rattle.examination.specs.Counted.{Few, CountsAdded, Counted, Tallied}
 use Rattle.tables.specs.Indexes.{wordOf}
 use Rattle.tables.specs.declared.entry.Entry.{Entry}
-use Rattle.tables.specs.Entries.{entryOf}
+use Rattle.tables.specs.Entries.{entryOf, isFree, isParent}
 use Rattle.tables.specs.Views.{View, tally}
-use Rattle.tables.specs.Entries.{isFree, isParent}
 use Rattle.tables.specs.Rules.R9.{activeOne, deletedOne, freeOne, systemOne, directoryOne}
 use Rattle.tables.proofs.KindLaws.{entry-attribute, free-word, not-free, parent-word, not-parent}
 use Rattle.tables.proofs.Sector1CountLaws.{active-le, deleted-le, free-le, system-le, directory-le, ones-other, ones-deleted, ones-active, free-yes, free-no}

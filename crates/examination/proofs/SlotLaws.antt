@@ -16,12 +16,11 @@ use Rattle.field.proofs.Tests.{says-true, says-false, passed, refused, says-map
 use borrow.Author.Tests.{not-true, not-false}
 use Rattle.tables.specs.declared.index.Pointer.{Pointer}
 use Rattle.tables.specs.declared.entry.Entry.{Entry}
-use Rattle.tables.specs.Entries.{entryOf}
-use Rattle.tables.specs.Entries.{isParent}
-use Rattle.tables.specs.Indexes.{wordOf, pointerAt, slotsOf, baseOf}
+use Rattle.tables.specs.Entries.{entryOf, isParent}
+use Rattle.tables.specs.Indexes.{wordOf, pointerAt, slotsOf, baseOf, UsedAt}
 use Rattle.tables.specs.Views.{View}
 use Rattle.tables.specs.Rules.R6.{Run, Shape, PointerLaw}
-use Rattle.examination.specs.Slots.{UsedAt, SlotsLaw, Leading, Heads}
+use Rattle.examination.specs.Slots.{SlotsLaw, Leading, Heads}
 use Rattle.tables.proofs.KindLaws.{parent-word, not-parent}
 use Rattle.tables.proofs.IndexLaws.{base-parent, slots-in}
 

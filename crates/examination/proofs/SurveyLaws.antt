@@ -29,11 +29,10 @@ use Rattle.tables.specs.Zones.{zoneAt}
 use Rattle.tables.specs.Indexes.{variableBit, tableAt, wordOf, nameOf, createdOf, changedOf, lengthOf, attributeOf, pointerAt, slotsOf, baseOf, startOf, countOf, sectorsOf, fileOf}
 use Rattle.tables.specs.Views.{View, viewOf, onlyIf, tally}
 use Rattle.tables.specs.Each.{Each}
-use Rattle.tables.specs.Entries.{entryOf}
-use Rattle.tables.specs.Entries.{isParent, isVariable}
+use Rattle.tables.specs.Entries.{entryOf, isParent, isVariable}
 use Rattle.tables.specs.Rules.R6.{R6, Shape}
-use Rattle.tables.specs.Rules.R8.{fileSectors, fileType, OneType, File, FileLaw}
-use Rattle.examination.specs.Surveys.{RunType, TableType, VariableFile, sectorsTo, OneTypeTo, Summed, TypesMarked, LengthLaw, Weighted, ParentLaw}
+use Rattle.tables.specs.Rules.R8.{fileSectors, fileType, InType, File, FileLaw}
+use Rattle.examination.specs.Surveys.{RunType, TableType, VariableFile, sectorsTo, InTypeTo, Summed, TypesMarked, LengthLaw, Weighted, ParentLaw}
 use Rattle.tables.proofs.KindLaws.{parent-word, not-parent, variable-word, variable-bit, not-variable}
 use Rattle.tables.proofs.IndexLaws.{base-low, slots-in}
 use Rattle.tables.proofs.Sector1CountLaws.{only-eq, only-ne, only-le}
@@ -196,10 +195,10 @@ marked-end v k n m h le ge = rw (let e : n ≡ k = omega arith in e) h
 
 -- one table more: it is of another file, or it lies in the file's type too
 module _ (v : View) (k g : ℕ) (r : Bool) where
-  type-other : (fileOf (k + 1) (v .table (k + 1)) ≡ g → ⊥) → Says r (OneTypeTo v k g) → Says r (OneTypeTo v (k + 1) g)
+  type-other : (fileOf (k + 1) (v .table (k + 1)) ≡ g → ⊥) → Says r (InTypeTo v k g) → Says r (InTypeTo v (k + 1) g)
   type-other ne s = says-map r (λ h. below-more _ _ h (λ e. absurd (ne e))) (λ h n l. h n (omega arith)) s
 
-  type-same : TableType v (k + 1) (v .table (k + 1)) (fileType v g) → Says r (OneTypeTo v k g) → Says r (OneTypeTo v (k + 1) g)
+  type-same : TableType v (k + 1) (v .table (k + 1)) (fileType v g) → Says r (InTypeTo v k g) → Says r (InTypeTo v (k + 1) g)
   type-same ty s = says-map r (λ h. below-more _ _ h (λ e. ty)) (λ h n l. h n (omega arith)) s
 
 module _ (v : View) (k : ℕ) (m : List ℕ) (t : List ℕ) (f : ℕ) where
@@ -212,7 +211,7 @@ module _ (v : View) (k : ℕ) (m : List ℕ) (t : List ℕ) (f : ℕ) where
   pub marked-fits : (r : Bool) → TypesMarked v k m → t ≡ v .table (k + 1) → f ≡ fileOf (k + 1) t → Says r (VariableFile v f → TableType v (k + 1) (v .table (k + 1)) (fileType v f)) → not r ≡ false → TypesMarked v (k + 1) m
   marked-fits r h e q s n = record { long = h .long; mark = λ g x. elim (ℕ-discrete g f) [ yes d ↦ here g x d | no d ↦ type-other v k g (eqb (getD m g 0) 0) (λ y. d (omega (arith, rw e at q))) (h .mark g x) ] }
     where
-      here : (g : ℕ) → VariableFile v g → g ≡ f → Says (eqb (getD m g 0) 0) (OneTypeTo v (k + 1) g)
+      here : (g : ℕ) → VariableFile v g → g ≡ f → Says (eqb (getD m g 0) 0) (InTypeTo v (k + 1) g)
       here g x d = type-same v k g (eqb (getD m g 0) 0) ((rw (← d) at (passed r s n)) x) (h .mark g x)
 
   pub marked-mixed : (r : Bool) → TypesMarked v k m → v .indexes ≤ 4096 → f ≤ v .indexes → t ≡ v .table (k + 1) → f ≡ fileOf (k + 1) t → Says r (VariableFile v f → TableType v (k + 1) (v .table (k + 1)) (fileType v f)) → not r ≡ true
@@ -222,19 +221,19 @@ module _ (v : View) (k : ℕ) (m : List ℕ) (t : List ℕ) (f : ℕ) where
     mark = λ g x. elim (ℕ-discrete g f) [ yes d ↦ here g x d | no d ↦ there g x d ];
   }
     where
-      here : (g : ℕ) → VariableFile v g → g ≡ f → Says (eqb (getD (set m f 1) g 0) 0) (OneTypeTo v (k + 1) g)
+      here : (g : ℕ) → VariableFile v g → g ≡ f → Says (eqb (getD (set m f 1) g 0) 0) (InTypeTo v (k + 1) g)
       here g x d = rw (d, getD-set-same m f 1 0 (omega (arith, h .long))) (λ all. refused r s n (λ y. all k (omega arith) (sym (rw e at q))))
 
-      there : (g : ℕ) → VariableFile v g → (g ≡ f → ⊥) → Says (eqb (getD (set m f 1) g 0) 0) (OneTypeTo v (k + 1) g)
+      there : (g : ℕ) → VariableFile v g → (g ≡ f → ⊥) → Says (eqb (getD (set m f 1) g 0) 0) (InTypeTo v (k + 1) g)
       there g x d = rw (getD-set-other m f g 1 0 d) (type-other v k g (eqb (getD m g 0) 0) (λ y. d (omega (arith, rw e at q))) (h .mark g x))
 
 -- ---- a parent
 
 module _ (v : View) (f : ℕ) where
-  one-to : OneType v f → OneTypeTo v (v .indexes) f
+  one-to : InType v f (fileType v f) → InTypeTo v (v .indexes) f
   one-to one n l e j lj s ls hs = one (n + 1) j s e (record { low = omega arith; high = omega arith; slot = lj; from = hs; to = ls })
 
-  to-one : OneTypeTo v (v .indexes) f → OneType v f
+  to-one : InTypeTo v (v .indexes) f → InType v f (fileType v f)
   to-one to i j s e u =
       let a : i - 1 + 1 ≡ i = omega (arith, u .low) in
       let b : fileOf i (v .table i) ≡ f → TableType v i (v .table i) (fileType v f) = rw a at (to (i - 1) (omega (arith, u .low, u .high))) in

@@ -3,12 +3,9 @@ use Prim.Native.Nat.{ℕ, suc, _+_, _*_, _<_}
 use mathlib.Core.List.{List}
 use Rattle.field.specs.Numbers.{u16At, u32At}
 use Rattle.field.specs.Parts.{AllBytes}
+use Rattle.tables.specs.Indexes.{UsedAt}
 use Rattle.tables.specs.Views.{View}
 use Rattle.tables.specs.Rules.R6.{Run}
-
--- the pointer whose six bytes begin at o is not zero
-abbrev pub UsedAt : List ℕ → ℕ → Type 0
-UsedAt t o = 0 < u32At t o + u16At t (o + 4)
 
 -- "Used pointers come first, unused ones are zero", and each used one is a lawful run
 pub record SlotsLaw (v : View) (t : List ℕ) (at n : ℕ) : Type 0 where

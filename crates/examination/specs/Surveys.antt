@@ -10,10 +10,9 @@ use Rattle.field.specs.Sum.{sumTo}
 use Rattle.tables.specs.Kinds.{zoneOf}
 use Rattle.tables.specs.Dates.{Date}
 use Rattle.tables.specs.Names.{Name}
-use Rattle.tables.specs.Indexes.{wordOf, nameOf, createdOf, changedOf, lengthOf, attributeOf, slotsOf, startOf, countOf, sectorsOf, fileOf}
+use Rattle.tables.specs.Indexes.{wordOf, nameOf, createdOf, changedOf, lengthOf, attributeOf, slotsOf, startOf, countOf, sectorsOf, fileOf, variableBit, directoryBit, systemBit}
 use Rattle.tables.specs.Views.{View, onlyIf}
 use Rattle.tables.specs.Rules.R8.{fileType}
-use Rattle.tables.specs.Indexes.{variableBit, directoryBit, systemBit}
 
 -- ---- zone types
 
@@ -39,8 +38,8 @@ abbrev pub sectorsTo : View → ℕ → ℕ → ℕ
 sectorsTo v k f = sumTo k (λ n. onlyIf (eqb (fileOf (n + 1) (v .table (n + 1))) f) (sectorsOf (n + 1) (v .table (n + 1))))
 
 -- those that are file f's lie in zones of the type that its first sector's has
-abbrev pub OneTypeTo : View → ℕ → ℕ → Type 0
-OneTypeTo v k f = (n : ℕ) → n < k → fileOf (n + 1) (v .table (n + 1)) ≡ f → TableType v (n + 1) (v .table (n + 1)) (fileType v f)
+abbrev pub InTypeTo : View → ℕ → ℕ → Type 0
+InTypeTo v k f = (n : ℕ) → n < k → fileOf (n + 1) (v .table (n + 1)) ≡ f → TableType v (n + 1) (v .table (n + 1)) (fileType v f)
 
 -- s has the sectors of each file at the file's number
 pub record Summed (v : View) (k : ℕ) (s : List ℕ) : Type 0 where
@@ -50,7 +49,7 @@ pub record Summed (v : View) (k : ℕ) (s : List ℕ) : Type 0 where
 -- m has 0 at the number of each variable file that lies in one zone type
 pub record TypesMarked (v : View) (k : ℕ) (m : List ℕ) : Type 0 where
   pub long : length m ≡ 4097
-  pub mark : (f : ℕ) → VariableFile v f → Says (eqb (getD m f 0) 0) (OneTypeTo v k f)
+  pub mark : (f : ℕ) → VariableFile v f → Says (eqb (getD m f 0) 0) (InTypeTo v k f)
 
 -- ---- a parent
 

@@ -68,10 +68,10 @@ fn parent_valid(t: &[u8], variable: bool, sectors: u32, mark: u8) -> bool
     if !weights_valid(index::attribute(t)) {
         return false;
     }
-    if !date_valid(index::created(t)) {
+    if !date_valid(index::creation_date(t)) {
         return false;
     }
-    date_valid(index::changed(t))
+    date_valid(index::change_date(t))
 }
 
 // Does index i?

@@ -14,10 +14,9 @@ use Rattle.field.proofs.BitLaws.{bit-kept, bitAt-lt}
 use Rattle.field.proofs.NumberLaws.{u16-lt}
 use Rattle.tables.specs.declared.places.Places.{Places}
 use Rattle.tables.specs.declared.zone.ZoneEntry.{ZoneEntry}
-use Rattle.tables.specs.Blocks.{blockOf, Block}
+use Rattle.tables.specs.Blocks.{blockOf, Block, perZone}
 use Rattle.tables.specs.Kinds.{firstOf}
 use Rattle.tables.specs.Places.{Layout}
-use Rattle.tables.specs.Blocks.{perZone}
 use Rattle.tables.specs.Sectors.{sectorAt}
 use Rattle.tables.specs.Views.{viewOf}
 use Rattle.tables.specs.Zones.{zoneAt, putZone}

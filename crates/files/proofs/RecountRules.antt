@@ -7,8 +7,7 @@ use native.Mathlib.Omega.{arith}
 use borrow.Author.Tests.{eq-eqb, ne-eqb}
 use Rattle.tables.specs.declared.zone.ZoneEntry.{ZoneEntry}
 use Rattle.tables.specs.Kinds.{zoneOf, firstOf}
-use Rattle.tables.specs.Blocks.{blockOf}
-use Rattle.tables.specs.Blocks.{perZone}
+use Rattle.tables.specs.Blocks.{blockOf, perZone}
 use Rattle.tables.specs.Views.{View, Parent, overOf, pointersOver, Under}
 use Rattle.tables.specs.Rules.R2.{Reads, ZoneBits, Untyped, InUse, R2}
 use Rattle.tables.specs.Rules.R3.{R3}

@@ -8,9 +8,8 @@ use Rattle.field.specs.Sum.{sumTo}
 use Rattle.tables.specs.declared.places.Places.{Places}
 use Rattle.tables.specs.declared.zone.ZoneEntry.{ZoneEntry}
 use Rattle.tables.specs.Kinds.{firstOf}
-use Rattle.tables.specs.Blocks.{blockOf}
+use Rattle.tables.specs.Blocks.{blockOf, perZone}
 use Rattle.tables.specs.Indexes.{tableAt, erased, putLink, slotsOf, startOf, countOf, fileOf}
-use Rattle.tables.specs.Blocks.{perZone}
 use Rattle.tables.specs.Sector1.{deletedOf, putDeleted, freeOf, putFree, putLatest, firstFreeOf, putFirstFree}
 use Rattle.tables.specs.Sectors.{putSectors}
 use Rattle.tables.specs.Views.{View, viewOf, next, onlyIf, tally, overOf}

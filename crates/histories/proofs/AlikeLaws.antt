@@ -9,11 +9,10 @@ use lib.ListN.{length}
 use Rattle.field.specs.Parts.{over}
 use Rattle.tables.specs.declared.places.Places.{Places}
 use Rattle.tables.specs.Gates.{Test, asks, Gate}
-use Rattle.tables.specs.Indexes.{wordOf, lengthOf, attributeOf}
+use Rattle.tables.specs.Indexes.{wordOf, lengthOf, attributeOf, deletedBit}
 use Rattle.tables.specs.Places.{placesOf}
 use Rattle.tables.specs.Rules.R1.{ceil}
 use Rattle.tables.specs.Rules.R8.{fileSectors}
-use Rattle.tables.specs.Indexes.{deletedBit}
 use Rattle.tables.specs.Sector1.{flagOf}
 use Rattle.tables.specs.Views.{viewOf, Parent}
 use Rattle.allocation.proofs.ChangeLaws.{parent-file}

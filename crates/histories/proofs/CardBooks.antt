@@ -48,7 +48,6 @@ use Rattle.files.specs.Spots.{onward, spotOf, kthSector}
 use Rattle.requests.specs.declared.amount.Amount.the-variants.{Is}
 use Rattle.requests.specs.Create.{FixedAllowed}
 use Rattle.requests.specs.Format.{Formatted}
-use Rattle.tables.specs.Sector1.{putFlag}
 use Rattle.requests.specs.Mount.{Mounted}
 use Rattle.requests.specs.Named.{fileBytes}
 use Rattle.requests.proofs.FormatRequestLaws.{formatted-one, formatted-good}

@@ -10,11 +10,9 @@ use lib.ListN.{length, take}
 use Rattle.tables.specs.declared.places.Places.{Places}
 use Rattle.tables.specs.Books.{Good, bookTests}
 use Rattle.tables.specs.Gates.{Gate}
-use Rattle.tables.specs.Indexes.{tableAt, lengthOf, attributeOf}
+use Rattle.tables.specs.Indexes.{tableAt, lengthOf, attributeOf, variableBit, deletedBit}
 use Rattle.tables.specs.Lawful.{Lawful}
 use Rattle.tables.specs.Places.{placesOf, Layout}
-use Rattle.tables.specs.Indexes.{variableBit}
-use Rattle.tables.specs.Indexes.{deletedBit}
 use Rattle.tables.specs.Sector1.{flagOf}
 use Rattle.tables.specs.Views.{viewOf, Parent}
 use Rattle.tables.proofs.GateLaws.{gate-rest, gate-head, gate-front}

@@ -9,7 +9,7 @@ use lib.Seq.{take-length}
 use lib.Dec.{eqb}
 use borrow.Author.Tests.{eq-eqb, ne-eqb, eqb-true}
 use Rattle.patterns.specs.Pattern.{isOne, isAny, Matches, end, same, one, none, more, someTail, byByte, matches}
-use Rattle.patterns.specs.Three.{Tail, fits, anyThree, byteThree, threeWay, Differs}
+use Rattle.patterns.specs.Three.{Tail, standsFor, anyThree, byteThree, threeWay, Differs}
 
 -- ---- the test is the match
 
@@ -81,8 +81,8 @@ none-twice test (c ∷ s) h = rw (h, none-twice test s (none-after test c s h))
 
 -- where no tail of the rest passes, no tail of the name has a rest that does
 none-by : (test : List ℕ → Bool) (q c : ℕ) (s : List ℕ) → someTail test s ≡ false → someTail (byByte test q) (c ∷ s) ≡ false
-none-by test q c [] h = rw (h, and-false (fits q c))
-none-by test q c (d ∷ s) h = rw (none-here test (d ∷ s) h, and-false (fits q c), none-by test q d s (none-after test d s h))
+none-by test q c [] h = rw (h, and-false (standsFor q c))
+none-by test q c (d ∷ s) h = rw (none-here test (d ∷ s) h, and-false (standsFor q c), none-by test q d s (none-after test d s h))
 
 module _ (test : List ℕ → Bool) (answer : List ℕ → ℕ) (tells : (s : List ℕ) → Tells (answer s) test s) where
   any-tells : (s : List ℕ) → Tells (anyThree answer s) (someTail test) s
@@ -103,9 +103,9 @@ module _ (test : List ℕ → Bool) (answer : List ℕ → ℕ) (tells : (s : Li
 
   byte-tells : (q : ℕ) (s : List ℕ) → Tells (byteThree answer q s) (byByte test q) s
   byte-tells q [] = refl
-  byte-tells q (c ∷ s) = go (fits q c) refl (answer s) (tells s)
+  byte-tells q (c ∷ s) = go (standsFor q c) refl (answer s) (tells s)
     where
-      go : (t : Bool) → fits q c ≡ t → (r : ℕ) → Tells r test s → Tells (cond t r 1) (byByte test q) (c ∷ s)
+      go : (t : Bool) → standsFor q c ≡ t → (r : ℕ) → Tells r test s → Tells (cond t r 1) (byByte test q) (c ∷ s)
       go true e zero h = rw (e, h)
       go true e (suc zero) h = rw (e, h)
       go true e (suc (suc r)) h = none-by test q c s h
@@ -139,11 +139,11 @@ tail-of (c ∷ s) h = let e : suc (length s) - 1 ≡ length s = omega arith in r
 
 -- ---- of stands_for
 
-pub one-fits : (q c : ℕ) → q ≡ 42 → true ≡ fits q c
-one-fits q c e = rw e
+pub one-stands : (q c : ℕ) → q ≡ 42 → true ≡ standsFor q c
+one-stands q c e = rw e
 
-pub same-fits : (q c : ℕ) {r : Bool} → (q ≡ 42 → ⊥) → r ≡ eqb q c → r ≡ fits q c
-same-fits q c n e = rw (ne-eqb q 42 n) e
+pub same-stands : (q c : ℕ) {r : Bool} → (q ≡ 42 → ⊥) → r ≡ eqb q c → r ≡ standsFor q c
+same-stands q c n e = rw (ne-eqb q 42 n) e
 
 -- ---- of three_way
 
@@ -196,14 +196,14 @@ name-ends (q ∷ p) [] h n z = rw (ne-eqb q 63 n)
 name-ends (q ∷ p) (c ∷ s) h n z = absurd (omega (arith, z))
 
 -- no `?`, and what is after it decides
-pub byte-fits : (p s : List ℕ) {f : Bool} {r : ℕ} {p' s' : List ℕ} → (length p ≡ 0 → ⊥) → (getD p 0 0 ≡ 63 → ⊥) → (length s ≡ 0 → ⊥) → f ≡ fits (getD p 0 0) (getD s 0 0) → f ≡ true → p' ≡ drop 1 p → s' ≡ drop 1 s → r ≡ threeWay p' s' → r ≡ threeWay p s
+pub byte-stands : (p s : List ℕ) {f : Bool} {r : ℕ} {p' s' : List ℕ} → (length p ≡ 0 → ⊥) → (getD p 0 0 ≡ 63 → ⊥) → (length s ≡ 0 → ⊥) → f ≡ standsFor (getD p 0 0) (getD s 0 0) → f ≡ true → p' ≡ drop 1 p → s' ≡ drop 1 s → r ≡ threeWay p' s' → r ≡ threeWay p s
 unfolding threeWay
-byte-fits [] s h n z e t u v m = absurd (h refl)
-byte-fits (q ∷ p) [] h n z e t u v m = absurd (z refl)
-byte-fits (q ∷ p) (c ∷ s) h n z e t u v m = rw (ne-eqb q 63 n, sym e ∙ t) (rw (u, v) at m)
+byte-stands [] s h n z e t u v m = absurd (h refl)
+byte-stands (q ∷ p) [] h n z e t u v m = absurd (z refl)
+byte-stands (q ∷ p) (c ∷ s) h n z e t u v m = rw (ne-eqb q 63 n, sym e ∙ t) (rw (u, v) at m)
 
 -- no `?`, and it does not stand for the name's byte
-pub byte-differs : (p s : List ℕ) {f : Bool} → (length p ≡ 0 → ⊥) → (getD p 0 0 ≡ 63 → ⊥) → (length s ≡ 0 → ⊥) → f ≡ fits (getD p 0 0) (getD s 0 0) → f ≡ false → 1 ≡ threeWay p s
+pub byte-differs : (p s : List ℕ) {f : Bool} → (length p ≡ 0 → ⊥) → (getD p 0 0 ≡ 63 → ⊥) → (length s ≡ 0 → ⊥) → f ≡ standsFor (getD p 0 0) (getD s 0 0) → f ≡ false → 1 ≡ threeWay p s
 unfolding threeWay
 byte-differs [] s h n z e t = absurd (h refl)
 byte-differs (q ∷ p) [] h n z e t = absurd (z refl)
@@ -214,5 +214,5 @@ byte-differs (q ∷ p) (c ∷ s) h n z e t = rw (ne-eqb q 63 n, sym e ∙ t)
 pub not-differs : {P : Type 0} → false ≡ true → P
 not-differs e = absurd (false≢true e)
 
-pub first-tells : (p s : List ℕ) {f : Bool} → (length p ≡ 0 → ⊥) → (length s ≡ 0 → ⊥) → (getD p 0 0 ≡ 63 → ⊥) → f ≡ fits (getD p 0 0) (getD s 0 0) → not f ≡ true → Differs p s
+pub first-tells : (p s : List ℕ) {f : Bool} → (length p ≡ 0 → ⊥) → (length s ≡ 0 → ⊥) → (getD p 0 0 ≡ 63 → ⊥) → f ≡ standsFor (getD p 0 0) (getD s 0 0) → not f ≡ true → Differs p s
 first-tells p s {f} h z n e t = record { some = omega (arith, z); answer = sym (byte-differs p s h n z e (sym (Bool·not-not f) ∙ ap not t)) }

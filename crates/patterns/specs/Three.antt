@@ -14,8 +14,8 @@ pub record Tail (s r : List ℕ) : Type 0 where
   pub shorter : length r < length s
 
 -- the pattern's byte q, which is no `?`, stands for c
-abbrev pub fits : ℕ → ℕ → Bool
-fits q c = isOne q || eqb q c
+abbrev pub standsFor : ℕ → ℕ → Bool
+standsFor q c = isOne q || eqb q c
 
 -- ---- the match with three answers. 0: the name matches; 1: it does not; 2: it does not, and no tail of it does
 
@@ -27,7 +27,7 @@ anyThree answer (c ∷ s) = cond (eqb (answer (c ∷ s)) 1) (anyThree answer s) 
 -- at a byte q that is no `?`: with a name at its end, no tail has a byte for it either
 abbrev pub byteThree : (List ℕ → ℕ) → ℕ → List ℕ → ℕ
 byteThree answer q [] = 2
-byteThree answer q (c ∷ s) = cond (fits q c) (answer s) 1
+byteThree answer q (c ∷ s) = cond (standsFor q c) (answer s) 1
 
 -- of a pattern and a name
 unfoldable pub threeWay : List ℕ → List ℕ → ℕ

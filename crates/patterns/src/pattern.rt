@@ -5,7 +5,7 @@ ghost use mathlib.Core.Bool.{true};
 ghost use Prim.Native.Nat.{_<_};
 ghost use lib.ListN.{length};
 ghost use Rattle.patterns.specs.Pattern.{matches};
-ghost use Rattle.patterns.specs.Three.{fits, threeWay, Tail, Differs};
+ghost use Rattle.patterns.specs.Three.{standsFor, threeWay, Tail, Differs};
 
 // Without its first byte.
 fn rest(s: &[u8]) -> &[u8]
@@ -17,7 +17,7 @@ fn rest(s: &[u8]) -> &[u8]
 
 // May the pattern's byte q, which is no `?`, stand for c?
 fn stands_for(q: u8, c: u8) -> bool
-    ensures { λ r. ⌜ r ≡ fits q c ⌝ }
+    ensures { λ r. ⌜ r ≡ standsFor q c ⌝ }
 {
     if q == b'*' {
         return true;

@@ -16,7 +16,7 @@ use Rattle.tables.specs.Places.{placesOf, Layout}
 use Rattle.tables.specs.Sector1.{activeOf, deletedOf, systemOf, directoryOf}
 use Rattle.tables.specs.Indexes.{tableAt, nameOf, createdOf, lengthOf, attributeOf, baseOf, pointerAt, Used, variableBit, directoryBit, systemBit, deletedBit}
 use Rattle.tables.specs.Views.{View, viewOf, Parent}
-use Rattle.tables.specs.Rules.R8.{fileType, OneType, File}
+use Rattle.tables.specs.Rules.R8.{fileType, InType, File}
 use Rattle.tables.specs.Rules.R9.{R9}
 use Rattle.tables.specs.Lawful.{Lawful}
 use Rattle.tables.proofs.Sector1CountLaws.{Ones, ones-active, ones-deleted}
@@ -87,7 +87,7 @@ module _ (p : Places) (b c : List ℕ) (f a : ℕ) (date : List ℕ) (lay : Layo
     held : Held (viewOf p d) f nothing
     held = restated-held (viewOf p b) (viewOf p d) f restated (lay .few) parent was r9
 
-    one : variableBit a ≡ 1 → OneType (viewOf p d) f
+    one : variableBit a ≡ 1 → InType (viewOf p d) f (fileType (viewOf p d) f)
     one e =
         let t = fileType (viewOf p b) f in
         in-one (viewOf p d) f held now used t

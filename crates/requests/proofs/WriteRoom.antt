@@ -8,13 +8,12 @@ use native.Mathlib.Omega.{arith}
 use lib.Dec.{eqb}
 use Rattle.field.specs.Sum.{sumTo}
 use Rattle.field.proofs.Sums.{sum-le}
-use Rattle.tables.specs.Blocks.{blockOf}
+use Rattle.tables.specs.Blocks.{blockOf, perZone}
 use Rattle.tables.specs.Books.{Good}
 use Rattle.tables.specs.Gates.{Gate}
 use Rattle.tables.specs.Indexes.{lengthOf}
 use Rattle.tables.specs.Places.{placesOf}
 use Rattle.tables.specs.Room.{countAt, typeIn, takenOf, Supply}
-use Rattle.tables.specs.Blocks.{perZone}
 use Rattle.tables.specs.Rules.R8.{fileType}
 use Rattle.tables.specs.Views.{View, viewOf, Parent, onlyIf}
 use Rattle.tables.proofs.Sector1CountLaws.{only-eq, only-le}

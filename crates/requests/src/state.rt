@@ -1,7 +1,7 @@
 // A file's attribute and sector 1's counts, written: what temporary delete, recover and set protection do.
 use tables::index::attribute;
 use tables::index::put_attribute;
-use tables::index::put_changed;
+use tables::index::put_change_date;
 use tables::index::table;
 use tables::kinds::Index;
 use tables::places::Places;
@@ -21,7 +21,7 @@ pub fn put_state(b: &mut [u8], p: Places, f: Index, a: u32, date: &[u8])
     requires { ⌜ (1 ≤ f .0) × (f .0 ≤ p .indexes) × (a < 65536) × (length (now date) ≡ 6) ⌝ }
     ensures { λ _. ⌜ now (b .exit) ≡ putState p (now (b .entry)) (f .0) a (now (date .entry)) ⌝ }
 {
-    put_changed(b, p, f, date);
+    put_change_date(b, p, f, date);
     put_attribute(b, p, f, a);
     sector1::put_latest(b, date);
 }

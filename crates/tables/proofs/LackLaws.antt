@@ -13,10 +13,9 @@ use Rattle.field.specs.Sum.{sumTo}
 use Rattle.field.proofs.Sums.{sum-more}
 use Rattle.tables.proofs.BlockLaws.{block-of}
 use Rattle.tables.specs.declared.zone.ZoneEntry.{ZoneEntry}
-use Rattle.tables.specs.Blocks.{Typed, blockOf}
+use Rattle.tables.specs.Blocks.{Typed, blockOf, perZone}
 use Rattle.tables.specs.Open.{isOpen, openZones}
 use Rattle.tables.specs.Room.{countAt, spareIn, spareOf, lackOf, Enough}
-use Rattle.tables.specs.Blocks.{perZone}
 use Rattle.tables.specs.Views.{View, onlyIf}
 
 -- a zone has a block at least

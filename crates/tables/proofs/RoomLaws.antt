@@ -1,7 +1,7 @@
 -- Room: "12 is answered exactly when no set of distinct free blocks, with each open zone given one type, supplies the counts", where the
 -- criterion over the zone table is what is tested.
 use mathlib.Core.Path.{_≡_, refl, sym, ap, _∙_, subst}
-use mathlib.Core.Logic.{_⊎_, ⊎-elim}
+use mathlib.Core.Logic.{⊎-elim}
 use mathlib.Core.Bool.{Bool, true, false, cond, _&&_, _||_, and-eq-true-iff}
 use Prim.Native.Nat.{ℕ, zero, suc, _+_, _-_, _*_, _/_, _%_, _≤_, _<_}
 use native.Mathlib.Nat.{add-zero, add-sub-cancel, div-add-mod', mod-lt, div-lt-iff-lt-mul}
@@ -14,11 +14,10 @@ use Rattle.tables.proofs.BlockLaws.{block-of, block-in}
 use Rattle.tables.proofs.ChoiceLaws.{count, under, fit, size, begun, firsts, lack, handed, choice-needs, choice-enough, owner-low, owner-high}
 use Rattle.tables.proofs.LackLaws.{some-blocks}
 use Rattle.tables.proofs.OpenLaws.{open-untyped, open-typed}
-use Rattle.tables.specs.Blocks.{Typed, Block, blockOf}
+use Rattle.tables.specs.Blocks.{Typed, Block, blockOf, perZone}
 use Rattle.tables.specs.Kinds.{firstOf}
 use Rattle.tables.specs.Open.{isOpen, openZones}
 use Rattle.tables.specs.Room.{typeIn, FreeBlock, takenOf, Supply, spareIn, spareOf, lackOf, Enough}
-use Rattle.tables.specs.Blocks.{perZone}
 use Rattle.tables.specs.Rules.R1.{ceil}
 use Rattle.tables.specs.Rules.R2.{R2, ZoneBits, InUse}
 use Rattle.tables.specs.Rules.R3.{R3, Blocks}

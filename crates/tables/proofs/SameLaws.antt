@@ -17,7 +17,7 @@ use Rattle.tables.specs.Rules.R4.{R4}
 use Rattle.tables.specs.Rules.R5.{FileChain, Stands, R5}
 use Rattle.tables.specs.Rules.R6.{Run, Shape, R6}
 use Rattle.tables.specs.Rules.R7.{R7}
-use Rattle.tables.specs.Rules.R8.{fileSectors, fileType, OneType, File, R8}
+use Rattle.tables.specs.Rules.R8.{fileSectors, fileType, InType, File, R8}
 use Rattle.tables.specs.Rules.R9.{freeOne, activeOne, deletedOne, systemOne, directoryOne, R9}
 use Rattle.tables.proofs.BlockLaws.{block-of, block-in}
 use Rattle.tables.proofs.ChainLaws.{walk-same, walk-none}
@@ -199,7 +199,7 @@ module _ (v v' : View) (s : Same v v') where
         ap (λ (t : List ℕ). v' .zone (zoneOf (startOf p t 0)) .ztype) (s .table p (h .low) (h .high))
         ∙ ap (λ (e : ZoneEntry). e .ztype) (under-zone p 0 _ (parent-under p h))
 
-    same-one : (p : ℕ) → Parent v p → OneType v p → OneType v' p
+    same-one : (p : ℕ) → Parent v p → InType v p (fileType v p) → InType v' p (fileType v' p)
     same-one p h o i j n f u =
         let w = under-same i j n u in
         rw (under-zone i j n w, same-type p h) (o i j n (rw (s .table i (w .low) (w .high)) at f) w)

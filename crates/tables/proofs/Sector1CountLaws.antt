@@ -8,11 +8,9 @@ use borrow.Author.Tests.{eq-eqb, ne-eqb}
 use mathlib.Core.List.{List}
 use lib.Dec.{eqb}
 use Rattle.field.proofs.Sums.{sum-le}
-use Rattle.tables.specs.Indexes.{wordOf, attributeOf}
+use Rattle.tables.specs.Indexes.{wordOf, attributeOf, directoryBit, systemBit, deletedBit}
 use Rattle.tables.specs.Views.{View, onlyIf, tally}
-use Rattle.tables.specs.Indexes.{directoryBit, systemBit}
 use Rattle.tables.specs.Rules.R9.{activeOne, deletedOne, freeOne, systemOne, directoryOne}
-use Rattle.tables.specs.Indexes.{deletedBit}
 
 -- a value under a test
 pub only-eq : (a b n : ℕ) → a ≡ b → onlyIf (eqb a b) n ≡ n

@@ -126,9 +126,12 @@ startOf i t j = u32At t (baseOf i t + 6 * j)
 abbrev pub countOf : ℕ → List ℕ → ℕ → ℕ
 countOf i t j = u16At t (baseOf i t + 6 * j + 4)
 
--- a pointer is used if its six bytes are not all zero
+-- a pointer is used if its six bytes are not all zero: the one that begins at byte o, and the j-th of table i
+abbrev pub UsedAt : List ℕ → ℕ → Type 0
+UsedAt t o = 0 < u32At t o + u16At t (o + 4)
+
 abbrev pub Used : ℕ → List ℕ → ℕ → Type 0
-Used i t j = 0 < startOf i t j + countOf i t j
+Used i t j = UsedAt t (baseOf i t + 6 * j)
 
 -- the sectors under the table's pointers
 unfoldable pub sectorsOf : ℕ → List ℕ → ℕ

@@ -1,7 +1,7 @@
 // Blocks: the sectors that a zone of a type gives out together.
 use crate::kinds::ZONE;
 ghost use mathlib.Core.Path.{_≡_};
-ghost use Prim.Native.Nat.{_*_, _/_, _<_};
+ghost use Prim.Native.Nat.{_*_, _/_};
 ghost use Rattle.tables.specs.Blocks.{Typed, blockOf, perZone, Block};
 
 // The types of zones that files lie in, C to H.

@@ -101,14 +101,14 @@ pub fn put_name(b: &mut [u8], p: Places, i: Index, name: &[u8])
 }
 
 // A parent's creation date.
-pub fn created(t: &[u8]) -> &[u8]
+pub fn creation_date(t: &[u8]) -> &[u8]
     requires { ⌜ length (now t) ≡ 128 ⌝ }
     ensures { λ r. ⌜ (now r ≡ createdOf (now (t .entry))) × (length (now r) ≡ 6) ⌝ }
 {
     &t[28..34]
 }
 
-pub fn put_created(b: &mut [u8], p: Places, i: Index, date: &[u8])
+pub fn put_creation_date(b: &mut [u8], p: Places, i: Index, date: &[u8])
     requires { ⌜ Layout p (length (now b)) ⌝ }
     requires { ⌜ (1 ≤ i .0) × (i .0 ≤ p .indexes) × (length (now date) ≡ 6) ⌝ }
     ensures { λ _. ⌜ now (b .exit) ≡ putCreated p (now (b .entry)) (i .0) (now (date .entry)) ⌝ }
@@ -117,14 +117,14 @@ pub fn put_created(b: &mut [u8], p: Places, i: Index, date: &[u8])
 }
 
 // A parent's change date.
-pub fn changed(t: &[u8]) -> &[u8]
+pub fn change_date(t: &[u8]) -> &[u8]
     requires { ⌜ length (now t) ≡ 128 ⌝ }
     ensures { λ r. ⌜ (now r ≡ changedOf (now (t .entry))) × (length (now r) ≡ 6) ⌝ }
 {
     &t[34..40]
 }
 
-pub fn put_changed(b: &mut [u8], p: Places, i: Index, date: &[u8])
+pub fn put_change_date(b: &mut [u8], p: Places, i: Index, date: &[u8])
     requires { ⌜ Layout p (length (now b)) ⌝ }
     requires { ⌜ (1 ≤ i .0) × (i .0 ≤ p .indexes) × (length (now date) ≡ 6) ⌝ }
     ensures { λ _. ⌜ now (b .exit) ≡ putChanged p (now (b .entry)) (i .0) (now (date .entry)) ⌝ }

@@ -19,9 +19,9 @@ fileSectors v p = tally v (λ i t. onlyIf (eqb (fileOf i t) p) (sectorsOf i t))
 unfoldable pub fileType : View → ℕ → ℕ
 fileType v p = v .zone (zoneOf (startOf p (v .table p) 0)) .ztype
 
--- every sector of the file lies in a zone of that type
-abbrev pub OneType : View → ℕ → Type 0
-OneType v p = (i j s : ℕ) → fileOf i (v .table i) ≡ p → Under v i j s → v .zone (zoneOf s) .ztype ≡ fileType v p
+-- every sector of file f lies in a zone of type t
+abbrev pub InType : View → ℕ → ℕ → Type 0
+InType v f t = (i j s : ℕ) → fileOf i (v .table i) ≡ f → Under v i j s → v .zone (zoneOf s) .ztype ≡ t
 
 -- parent p, whose bytes are t; a length below 0 is read as 2147483648 or more
 pub record File (v : View) (p : ℕ) (t : List ℕ) : Type 0 where
@@ -29,7 +29,7 @@ pub record File (v : View) (p : ℕ) (t : List ℕ) : Type 0 where
   pub least : lengthOf t < 2147483648
   pub most : lengthOf t ≤ 1024 * fileSectors v p
   pub fixed : variableBit (attributeOf t) ≡ 0 → 1 ≤ lengthOf t
-  pub variable : variableBit (attributeOf t) ≡ 1 → OneType v p
+  pub variable : variableBit (attributeOf t) ≡ 1 → InType v p (fileType v p)
   pub weights : attributeOf t < 128
   pub both : directoryBit (attributeOf t) + systemBit (attributeOf t) ≤ 1
   pub created : Date (createdOf t)

@@ -2,7 +2,7 @@ use native.Mathlib.Omega.{arith}
 use Prim.Native.Nat.{ℕ, _+_, _-_, _*_, _≤_, _<_}
 use Rattle.examination.proofs.ChildLaws.{full-stop, full-end, full-more}
 use Rattle.examination.proofs.SlotLaws.{slot-in}
-use Rattle.examination.specs.Slots.{UsedAt}
+use Rattle.tables.specs.Indexes.{UsedAt}
 use borrow.Author.Needs.{needs}
 use Rattle.examination.proofs.children.is_full.Statement.{statement}
 use Rattle.examination.proofs.children.is_full.Tie as tie

@@ -1,7 +1,6 @@
-use lib.ListN.{length-set}
+use lib.ListN.{length-set, length}
 use Rattle.field.proofs.PartLaws.{copy-more, copy-end}
 use lib.Seq.{paste, paste-zero}
-use lib.ListN.{length}
 use Prim.Native.Nat.{_≤_, _-_}
 use mathlib.Core.Path.{_≡_, refl}
 use borrow.Author.Needs.{needs}

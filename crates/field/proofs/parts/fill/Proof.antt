@@ -1,7 +1,6 @@
-use lib.ListN.{length-set}
+use lib.ListN.{length-set, length, replicate}
 use Rattle.field.proofs.PartLaws.{fill-again, fill-end}
 use lib.Seq.{paste, paste-zero}
-use lib.ListN.{length, replicate}
 use Prim.Native.Nat.{_≤_, _-_}
 use mathlib.Core.Path.{_≡_, refl}
 use borrow.Author.Needs.{needs}

@@ -1,9 +1,8 @@
-use Prim.Native.Nat.{_+_}
+use Prim.Native.Nat.{_+_, _≤_, _-_}
 use Rattle.field.proofs.RunLaws.{count-next, count-le}
 use Rattle.field.specs.Runs.{countBits}
 use Rattle.field.specs.Sum.{sumTo}
 use native.Mathlib.Omega.{arith}
-use Prim.Native.Nat.{_≤_, _-_}
 use mathlib.Core.Path.{_≡_, refl}
 use borrow.Author.Needs.{needs}
 use Rattle.field.proofs.runs.count_each.Statement.{statement}

@@ -3,7 +3,7 @@ use native.Mathlib.Omega.{arith}
 use lib.ListN.{length}
 use borrow.Fn.Kinds.{In}
 use borrow.Fn.PlainCycle.{Measures, is, falls, and}
-use Rattle.patterns.proofs.PatternLaws.{both-end, pattern-ends, differs-some, any-passes, any-stands, any-ends, any-more, name-ends, byte-fits, byte-differs}
+use Rattle.patterns.proofs.PatternLaws.{both-end, pattern-ends, differs-some, any-passes, any-stands, any-ends, any-more, name-ends, byte-stands, byte-differs}
 use Rattle.patterns.proofs.pattern.rest.Reads as rest-reads
 use Rattle.patterns.proofs.pattern.differs.Reads as differs-reads
 use Rattle.patterns.proofs.pattern.stands_for.Reads as stands-for-reads
@@ -58,5 +58,5 @@ pub +three-way-spec : {M : Type 1} → statement M
     (λ c κs. omega arith)
     (λ c κs. omega arith)
     (λ c κs. (omega arith, tt))
-    (λ c. search byte-fits)
+    (λ c. search byte-stands)
     (λ c. search byte-differs)

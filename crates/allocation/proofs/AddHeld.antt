@@ -13,20 +13,20 @@ use Rattle.tables.specs.Places.{Layout}
 use Rattle.tables.specs.Sector1.{firstFreeOf}
 use Rattle.tables.specs.Views.{View, viewOf, cov}
 use Rattle.tables.specs.Rules.R6.{Run}
-use Rattle.tables.proofs.BlockLaws.{block-of, block-in}
+use Rattle.tables.proofs.BlockLaws.{data-block, block-in}
 use Rattle.tables.proofs.IndexLaws.{length-table}
 use Rattle.tables.proofs.PointerLaws.{cov-join}
 use Rattle.allocation.specs.declared.choice.Found.{Found}
 use Rattle.allocation.specs.declared.tail.Tail.{Tail}
 use Rattle.allocation.specs.declared.tail.Pushed.the-variants.{Joined, Beside, Further}
 use Rattle.allocation.specs.declared.growth.Cursor.{Cursor}
-use Rattle.allocation.specs.Choice.{nextBlock, blockStart, putBlock, inTurn}
+use Rattle.allocation.specs.Choice.{choose, blockStart, putBlock, inTurn}
 use Rattle.allocation.specs.NextPointer.{longer, beside, further, placeOf}
 use Rattle.allocation.specs.NewTables.{putChild}
 use Rattle.allocation.specs.Growth.{Growth, pointed, addBlock}
 use Rattle.allocation.specs.Ready.{Head, Ready}
 use Rattle.allocation.specs.Steps.{Choosable, Taken, SameFiles}
-use Rattle.allocation.specs.Held.{Held, Ends, nothing}
+use Rattle.allocation.specs.Held.{Held, Ends}
 use Rattle.allocation.specs.Lengthened.{sectorsIn, AllOf, Quiet, Lengthened}
 use Rattle.allocation.proofs.TurnLaws.{turn-none, turn-step}
 use Rattle.allocation.proofs.PlanLaws.{push-cases, stock-free, stock-taken}
@@ -54,10 +54,10 @@ run-join v a c d r q few = record {
 
 -- ---- a block
 
-module _ (p : Places) (f t : ℕ) (ts : List ℕ) (g : Growth) (ready : Ready p f g (t ∷ ts)) (held : Held (viewOf p (g .books)) f nothing)
+module _ (p : Places) (f t : ℕ) (ts : List ℕ) (g : Growth) (ready : Ready p f g (t ∷ ts)) {extra : ℕ → ℕ} (held : Held (viewOf p (g .books)) f extra)
     (ends : Ends (viewOf p (g .books)) f (g .cursor)) where
   abbrev k : Found
-  k = nextBlock (viewOf p (g .books)) t
+  k = choose (viewOf p (g .books)) (g .cursor .tail) t
 
   abbrev b : List ℕ
   b = putBlock p (g .books) t k
@@ -81,16 +81,16 @@ module _ (p : Places) (f t : ℕ) (ts : List ℕ) (g : Growth) (ready : Ready p 
   bits x = bitAt-lt (g .books) (p .sectortable) x
 
   can : Choosable (viewOf p (g .books)) t k
-  can = stock-free p (g .books) t ts (ready .layout) (ready .stocked)
+  can = stock-free p (g .books) (g .cursor .tail) t ts (ready .layout) (ready .stocked)
 
   took : Taken (viewOf p (g .books)) v t k
-  took = stock-taken p (g .books) t ts (ready .layout) (ready .stocked)
+  took = stock-taken p (g .books) (g .cursor .tail) t ts (ready .layout) (ready .stocked)
 
   files : SameFiles (viewOf p (g .books)) v
   files = block-files p (g .books) t k (ready .layout) (can .proper)
 
   -- the block is taken and not yet under a pointer
-  block-held : Held v f (λ x. 0 + cov s n x)
+  block-held : Held v f (λ x. extra x + cov s n x)
   block-held = taken-held can took files bits held (taken-R2 _ v t k can took (held .r2)) (taken-R3 _ v t k can took (held .r3))
 
   block-ends : Ends v f c
@@ -103,7 +103,7 @@ module _ (p : Places) (f t : ℕ) (ts : List ℕ) (g : Growth) (ready : Ready p 
   unfolding blockStart
   block-type x lo hi =
       let q = can .proper in
-      let i = block-in (k .number) n (block-of t (q .typed)) (q .within) in
+      let i = block-in (k .number) n (data-block t (q .typed)) (q .within) in
       let e : zoneOf x ≡ k .zone .0 = omega (arith, q .low) in
       rw (e, took .here)
 
@@ -121,7 +121,7 @@ module _ (p : Places) (f t : ℕ) (ts : List ℕ) (g : Growth) (ready : Ready p 
   sized j = length-table p b j block-layout
 
   -- and then under one
-  block-longer : (a : ℕ) (b' : List ℕ) (c' : Cursor) → a ≡ s → Longer v (viewOf p b') f a n nothing c' → Quiet p b b' → Lengthened p f g (record { books = b'; cursor = c' }) (t ∷ [])
+  block-longer : (a : ℕ) (b' : List ℕ) (c' : Cursor) → a ≡ s → Longer v (viewOf p b') f a n extra c' → Quiet p b b' → Lengthened extra p f g (record { books = b'; cursor = c' }) (t ∷ [])
   unfolding sectorsIn AllOf
   block-longer a b' c' e o quiet = record {
     held = o .held;
@@ -133,11 +133,11 @@ module _ (p : Places) (f t : ℕ) (ts : List ℕ) (g : Growth) (ready : Ready p 
   }
 
   -- in the last pointer
-  joined : l .last .start .0 + l .last .count ≡ s → l .last .count + n ≤ 32767 → Taking p f b c (Joined (longer l n)) ts → Lengthened p f g (pointed p f b c (Joined (longer l n))) (t ∷ [])
+  joined : l .last .start .0 + l .last .count ≡ s → l .last .count + n ≤ 32767 → Taking p f b c (Joined (longer l n)) ts → Lengthened extra p f g (pointed p f b c (Joined (longer l n))) (t ∷ [])
   joined e few h =
       rw (pointed-joined p f b c (longer l n), here-is p f b c (longer l n))
       (block-longer _ _ _ e
-      (joined-held v _ f c (ready .layout .few) sized block-ends _ nothing block-held (l .tables) n some (here-written p f b c (Joined (longer l n)) ts h)
+      (joined-held v _ f c (ready .layout .few) sized block-ends _ extra block-held (l .tables) n some (here-written p f b c (Joined (longer l n)) ts h)
       (run-join v (l .last .start .0) (l .last .count) n old (rw e block-run) few) (λ x. rw e (omega arith)))
       (calm-quiet (pointer-still p b (c .table .0) (placeOf l) (longer l n .last) block-layout (ready .low) (ready .high) (omega arith) .calm)))
     where
@@ -150,19 +150,19 @@ module _ (p : Places) (f t : ℕ) (ts : List ℕ) (g : Growth) (ready : Ready p 
           rw (last-start v f c block-ends some, last-count v f c block-ends some) at (shape .used (l .slot - 1) (omega (arith, block-ends .within, block-ends .capacity, some)) (block-ends .used (l .slot - 1) (omega (arith, some))))
 
   -- in a pointer of its own beside it
-  stood : l .slot < l .capacity → Taking p f b c (Beside (beside l s n)) ts → Lengthened p f g (pointed p f b c (Beside (beside l s n))) (t ∷ [])
+  stood : l .slot < l .capacity → Taking p f b c (Beside (beside l s n)) ts → Lengthened extra p f g (pointed p f b c (Beside (beside l s n))) (t ∷ [])
   stood room h =
       rw (pointed-beside p f b c (beside l s n), here-is p f b c (beside l s n))
       (block-longer _ _ _ refl
-      (beside-held v _ f c (ready .layout .few) sized block-ends _ nothing block-held (l .tables) (beside l s n .last) (here-written p f b c (Beside (beside l s n)) ts h) room block-run (λ x. omega arith))
+      (beside-held v _ f c (ready .layout .few) sized block-ends _ extra block-held (l .tables) (beside l s n .last) (here-written p f b c (Beside (beside l s n)) ts h) room block-run (λ x. omega arith))
       (calm-quiet (pointer-still p b (c .table .0) (placeOf (beside l s n)) (beside l s n .last) block-layout (ready .low) (ready .high) (omega arith) .calm)))
 
   -- in a further child's first one
-  chained : l .capacity ≤ l .slot → Taking p f b c (Further (further l s n)) ts → Lengthened p f g (pointed p f b c (Further (further l s n))) (t ∷ [])
+  chained : l .capacity ≤ l .slot → Taking p f b c (Further (further l s n)) ts → Lengthened extra p f g (pointed p f b c (Further (further l s n))) (t ∷ [])
   chained room h =
       rw (pointed-further p f b c (further l s n), further-is p f b c (further l s n))
       (block-longer _ _ _ refl
-      (extended-held v _ f c (ready .layout .few) sized block-ends _ nothing block-held (l .tables + 1) (further l s n .last)
+      (extended-held v _ f c (ready .layout .few) sized block-ends _ extra block-held (l .tables + 1) (further l s n .last)
       (further-extended p f b c (further l s n) ts h) room (λ z. omega (arith, head .low)) block-run (λ x. omega arith))
       (quiet-trans (calm-quiet new)
       (calm-quiet (pointer-still p (putChild p b f (c .table .0)) (firstFreeOf b) 22 (further l s n .last) (rw (new .len) block-layout) (head .low) (head .high) (omega arith) .calm))))
@@ -173,18 +173,18 @@ module _ (p : Places) (f t : ℕ) (ts : List ℕ) (g : Growth) (ready : Ready p 
       new : Calm p b (putChild p b f (c .table .0))
       new = child-popped p b f (c .table .0) block-layout head (ready .low) (ready .high) .calm
 
-pub add-held : (p : Places) (f t : ℕ) (ts : List ℕ) (g : Growth) → Ready p f g (t ∷ ts) → Held (viewOf p (g .books)) f nothing → Ends (viewOf p (g .books)) f (g .cursor)
-    → Lengthened p f g (addBlock p f t g) (t ∷ [])
-add-held p f t ts g ready held ends =
-    let k = nextBlock (viewOf p (g .books)) t in
+pub add-held : (p : Places) (f t : ℕ) (ts : List ℕ) (g : Growth) {extra : ℕ → ℕ} → Ready p f g (t ∷ ts) → Held (viewOf p (g .books)) f extra → Ends (viewOf p (g .books)) f (g .cursor)
+    → Lengthened extra p f g (addBlock p f t g) (t ∷ [])
+add-held p f t ts g {extra = extra} ready held ends =
+    let k = choose (viewOf p (g .books)) (g .cursor .tail) t in
     let b = putBlock p (g .books) t k in
     rw (add-is p f t g, laid-is p f t k g)
-    (push-cases (λ r. Taking p f b (g .cursor) r ts → Lengthened p f g (pointed p f b (g .cursor) r) (t ∷ [])) (g .cursor .tail) (blockStart t k) (blockOf t)
+    (push-cases (λ r. Taking p f b (g .cursor) r ts → Lengthened extra p f g (pointed p f b (g .cursor) r) (t ∷ [])) (g .cursor .tail) (blockStart t k) (blockOf t)
     (joined p f t ts g ready held ends) (stood p f t ts g ready held ends) (chained p f t ts g ready held ends) (step-taking p f g t ts ready))
 
 -- ---- blocks in turn
 
-lengthened-none : (p : Places) (f : ℕ) (g : Growth) → Held (viewOf p (g .books)) f nothing → Ends (viewOf p (g .books)) f (g .cursor) → Lengthened p f g (inTurn (addBlock p f) [] g) []
+lengthened-none : (p : Places) (f : ℕ) (g : Growth) {extra : ℕ → ℕ} → Held (viewOf p (g .books)) f extra → Ends (viewOf p (g .books)) f (g .cursor) → Lengthened extra p f g (inTurn (addBlock p f) [] g) []
 unfolding sectorsIn
 lengthened-none p f g held ends = rw (turn-none (addBlock p f) g) (record {
   held = held;
@@ -195,8 +195,8 @@ lengthened-none p f g held ends = rw (turn-none (addBlock p f) g) (record {
   quiet = record { len = refl; low = λ j l. refl; tails = λ s q. q };
 })
 
-lengthened-more : (p : Places) (f t : ℕ) (ts : List ℕ) (g : Growth) → Lengthened p f g (addBlock p f t g) (t ∷ [])
-    → Lengthened p f (addBlock p f t g) (inTurn (addBlock p f) ts (addBlock p f t g)) ts → Lengthened p f g (inTurn (addBlock p f) (t ∷ ts) g) (t ∷ ts)
+lengthened-more : (p : Places) (f t : ℕ) (ts : List ℕ) (g : Growth) {extra : ℕ → ℕ} → Lengthened extra p f g (addBlock p f t g) (t ∷ [])
+    → Lengthened extra p f (addBlock p f t g) (inTurn (addBlock p f) ts (addBlock p f t g)) ts → Lengthened extra p f g (inTurn (addBlock p f) (t ∷ ts) g) (t ∷ ts)
 unfolding sectorsIn AllOf
 lengthened-more p f t ts g one more = rw (turn-step (addBlock p f) t ts g) (record {
   held = more .held;
@@ -207,8 +207,8 @@ lengthened-more p f t ts g one more = rw (turn-step (addBlock p f) t ts g) (reco
   quiet = quiet-trans (one .quiet) (more .quiet);
 })
 
-pub adds-held : (p : Places) (f : ℕ) (ts : List ℕ) (g : Growth) → Ready p f g ts → Held (viewOf p (g .books)) f nothing → Ends (viewOf p (g .books)) f (g .cursor)
-    → Lengthened p f g (inTurn (addBlock p f) ts g) ts
+pub adds-held : (p : Places) (f : ℕ) (ts : List ℕ) (g : Growth) {extra : ℕ → ℕ} → Ready p f g ts → Held (viewOf p (g .books)) f extra → Ends (viewOf p (g .books)) f (g .cursor)
+    → Lengthened extra p f g (inTurn (addBlock p f) ts g) ts
 adds-held p f [] g ready held ends = lengthened-none p f g held ends
 adds-held p f (t ∷ ts) g ready held ends =
     let one = add-held p f t ts g ready held ends in

@@ -19,13 +19,14 @@ use Rattle.tables.specs.Kinds.{zoneOf}
 use Rattle.tables.specs.Each.{Each}
 use Rattle.tables.specs.Indexes.{wordOf, parentOf, attributeOf, linkOf, minus, slotsOf, startOf, countOf, Used, sectorsOf, fileOf}
 use Rattle.tables.specs.Same.{Ground}
-use Rattle.tables.specs.Views.{View, Begins, Free, Parent, Child, walk, next, onlyIf, tally, cov, overOf, pointersOver, Under}
+use Rattle.tables.specs.Views.{View, Begins, Free, Parent, Child, walk, next, onlyIf, tally, cov, claimsOf, overOf, claimsOver, Under}
 use Rattle.tables.specs.Rules.R4.{R4}
 use Rattle.tables.specs.Rules.R5.{Full, FileChain, Stands, R5}
 use Rattle.tables.specs.Rules.R6.{Run, R6}
 use Rattle.tables.specs.Rules.R8.{fileSectors, InType, File, FileLaw}
 use Rattle.tables.specs.Rules.R9.{freeOne, activeOne, deletedOne, systemOne, directoryOne, R9}
 use Rattle.tables.proofs.ChainLaws.{walk-same, walk-none}
+use Rattle.tables.proofs.FrameLaws.{header-kept}
 use Rattle.tables.proofs.IndexLaws.{slots-parent, slots-in, file-free, file-parent, file-child}
 use Rattle.tables.proofs.Sector1CountLaws.{Ones, only-eq, only-ne, ones-other, free-yes, free-no}
 use Rattle.allocation.specs.declared.growth.Cursor.{Cursor}
@@ -190,8 +191,8 @@ module _ (v v' : View) (f x : ℕ) (h : Changed v v' f x) where
     pub count-there : (k : ℕ) → k < slotsOf j (v .table j) → countOf j (v' .table j) k ≡ countOf j (v .table j) k
     count-there k l = count-kept j (h .kept j lo hi ne) (omega arith) k (inl (omega (arith, slots-in j (v .table j))))
 
-    pub over-there : (s : ℕ) → overOf j (v' .table j) s ≡ overOf j (v .table j) s
-    unfolding overOf
+    pub over-there : (s : ℕ) → claimsOf j (v' .table j) s ≡ claimsOf j (v .table j) s
+    unfolding claimsOf overOf
     over-there s = rw slots-there (sum-same (slotsOf j (v .table j)) _ _ (λ k l. ap₂ (λ (a c : ℕ). cov a c s) (start-there k l) (count-there k l)))
 
     pub sectors-there : sectorsOf j (v' .table j) ≡ sectorsOf j (v .table j)
@@ -214,7 +215,7 @@ module _ (v v' : View) (f x : ℕ) (h : Changed v v' f x) where
       used = λ k l u. (let l' : k < slotsOf j (v .table j) = rw slots-there at l in
           rw (start-there k l', count-there k l') (ground-run v v' (h .ground) _ _ (s .used k l' (rw (start-there k l', count-there k l') at u))));
       one = λ e nf. one (sym word-there ∙ e) (s .one (sym word-there ∙ e) nf);
-      header = λ e k l. h .kept j lo hi ne .out (58 + k) (inl (omega arith)) ∙ s .header (sym word-there ∙ e) k l;
+      header = λ e. header-kept (h .kept j lo hi ne) (inl (omega arith)) (s .header (sym word-there ∙ e));
     }
       where
         one : wordOf (v .table j) ≡ j → Used j (v .table j) 0 → Used j (v' .table j) 0
@@ -322,9 +323,9 @@ module _ (v v' : View) (f x : ℕ) (h : Changed v v' f x) where
       → tally v' g + g x (v .table x) ≡ tally v g + g x (v' .table x)
   tally-at = tally-part v v' x (h .indexes) (h .low) (h .high)
 
-  pub pointers-at : (s : ℕ) → pointersOver v' s + overOf x (v .table x) s ≡ pointersOver v s + overOf x (v' .table x) s
-  unfolding pointersOver
-  pointers-at s = tally-at (λ i t. overOf i t s) (λ j lo hi ne. over-there j lo hi ne s)
+  pub pointers-at : (s : ℕ) → claimsOver v' s + claimsOf x (v .table x) s ≡ claimsOver v s + claimsOf x (v' .table x) s
+  unfolding claimsOver
+  pointers-at s = tally-at (λ i t. claimsOf i t s) (λ j lo hi ne. over-there j lo hi ne s)
 
   pub sectors-at : fileSectors v' f + onlyIf (eqb (fileOf x (v .table x)) f) (sectorsOf x (v .table x)) ≡ fileSectors v f + sectorsOf x (v' .table x)
   unfolding fileSectors

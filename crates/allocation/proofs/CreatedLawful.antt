@@ -11,8 +11,8 @@ use Rattle.tables.specs.Indexes.{tableAt, Used, systemBit, directoryBit}
 use Rattle.tables.specs.Sector1.{firstFreeOf}
 use Rattle.tables.specs.Views.{View, viewOf}
 use Rattle.tables.specs.Rules.R8.{fileSectors, FileLaw}
-use Rattle.tables.specs.Lawful.{Lawful}
-use Rattle.tables.proofs.BlockLaws.{block-of}
+use Rattle.tables.specs.Lawful.{LawfulWith}
+use Rattle.tables.proofs.BlockLaws.{data-block}
 use Rattle.tables.proofs.IndexLaws.{length-table}
 use Rattle.allocation.specs.Choice.{inOrder, inTurn}
 use Rattle.allocation.specs.NextPointer.{noPointer}
@@ -24,7 +24,7 @@ use Rattle.allocation.specs.Steps.{parentBytes, Made}
 use Rattle.allocation.specs.Held.{Ends}
 use Rattle.allocation.specs.Lengthened.{sectorsIn, Quiet, Lengthened}
 use Rattle.allocation.specs.NewLawful.{NewLawful}
-use Rattle.allocation.specs.MadeFiles.{Provided, started, created}
+use Rattle.allocation.specs.MadeFiles.{ProvidedWith, started, created}
 use Rattle.allocation.proofs.OrderLaws.{order-typed}
 use Rattle.allocation.proofs.FileLaws.{provided-head, started-made}
 use Rattle.allocation.proofs.PointerBytes.{parent-length, parent-name, parent-created, parent-changed, parent-long, parent-attribute}
@@ -61,9 +61,9 @@ module _ (x : ℕ) (n : New) (name : length (n .name) ≤ 24) (date : length (n 
 some-sectors : (ts : List ℕ) → AllTyped ts → 1 ≤ length ts → 1 ≤ sectorsIn ts
 unfolding sectorsIn AllTyped
 some-sectors [] a l = absurd (omega arith)
-some-sectors (t ∷ ts) a l = omega (arith, block-of t (a .0) .some)
+some-sectors (t ∷ ts) a l = omega (arith, data-block t (a .0) .some)
 
-module _ (p : Places) (b : List ℕ) (n : New) (counts : List ℕ) (provided : Provided p b noPointer counts) (new : NewLawful n counts) where
+module _ (p : Places) (b : List ℕ) (n : New) (counts : List ℕ) {extra : ℕ → ℕ} (provided : ProvidedWith extra p b noPointer counts) (new : NewLawful n counts) where
   abbrev f : ℕ
   f = firstFreeOf b
 
@@ -73,7 +73,7 @@ module _ (p : Places) (b : List ℕ) (n : New) (counts : List ℕ) (provided : P
   abbrev start-made : Made (viewOf p b) (viewOf p (started p b n .books)) n (systemBit (n .attribute)) (directoryBit (n .attribute))
   start-made = started-made p b n (provided .layout) some-head (new .name .most) (new .date .long)
 
-  start-begun : Begun (viewOf p (started p b n .books)) f
+  start-begun : Begun extra (viewOf p (started p b n .books)) f
   start-begun =
       let l = provided .lawful in
       made-held (viewOf p b) (viewOf p (started p b n .books)) n (systemBit (n .attribute)) (directoryBit (n .attribute)) (provided .layout .few) start-made
@@ -92,7 +92,7 @@ module _ (p : Places) (b : List ℕ) (n : New) (counts : List ℕ) (provided : P
 
   -- ---- with its blocks
 
-  module _ (g : Growth) (h : Lengthened p f (started p b n) g (inOrder counts)) where
+  module _ (g : Growth) (h : Lengthened extra p f (started p b n) g (inOrder counts)) where
     abbrev v : View
     v = viewOf p (g .books)
 
@@ -122,19 +122,19 @@ module _ (p : Places) (b : List ℕ) (n : New) (counts : List ℕ) (provided : P
         (λ e. (let t = new .variable e in in-one v f (h .held) (h .ends .parent) used (t .0) (h .types (t .0) (t .1) (start-begun .types (t .0)))))
         (new .weights) (new .both)
 
-    lawful : Lawful p (g .books)
+    lawful : LawfulWith extra p (g .books)
     lawful = held-rules p (g .books) f (quiet-R1 p b (g .books) quiet (provided .lawful .r1)) (h .held) (λ b. used) law
 
   module _ (ready : Ready p f (started p b n) (inOrder counts)) where
-    lengthened : Lengthened p f (started p b n) (inTurn (addBlock p f) (inOrder counts) (started p b n)) (inOrder counts)
+    lengthened : Lengthened extra p f (started p b n) (inTurn (addBlock p f) (inOrder counts) (started p b n)) (inOrder counts)
     lengthened = adds-held p f (inOrder counts) (started p b n) ready (start-begun .held) start-ends
 
-pub created-lawful : (p : Places) (b : List ℕ) (n : New) (counts : List ℕ) → Provided p b noPointer counts → NewLawful n counts
-    → Ready p (firstFreeOf b) (started p b n) (inOrder counts) → Lawful p (created p b n counts)
+pub created-lawful : (p : Places) (b : List ℕ) (n : New) (counts : List ℕ) {extra : ℕ → ℕ} → ProvidedWith extra p b noPointer counts → NewLawful n counts
+    → Ready p (firstFreeOf b) (started p b n) (inOrder counts) → LawfulWith extra p (created p b n counts)
 unfolding created
 created-lawful p b n counts provided new ready = lawful p b n counts provided new _ (lengthened p b n counts provided new ready)
 
-pub created-quiet : (p : Places) (b : List ℕ) (n : New) (counts : List ℕ) → Provided p b noPointer counts → NewLawful n counts
+pub created-quiet : (p : Places) (b : List ℕ) (n : New) (counts : List ℕ) {extra : ℕ → ℕ} → ProvidedWith extra p b noPointer counts → NewLawful n counts
     → Ready p (firstFreeOf b) (started p b n) (inOrder counts) → Quiet p b (created p b n counts)
 unfolding created
 created-quiet p b n counts provided new ready = quiet p b n counts provided new _ (lengthened p b n counts provided new ready)

@@ -12,7 +12,7 @@ use Rattle.field.proofs.NumberLaws.{u16-kept, u32-kept, kept-putU32, u32-put-sa
 use Rattle.tables.specs.declared.index.Pointer.{Pointer}
 use Rattle.tables.specs.Kinds.{zoneOf}
 use Rattle.tables.specs.Indexes.{wordOf, parentOf, linkOf, minus, slotsOf, baseOf, startOf, countOf, Used, sectorsOf, fileOf}
-use Rattle.tables.specs.Views.{View, Begins, Free, Parent, Child, walk, next, cov, overOf, Under}
+use Rattle.tables.specs.Views.{View, Begins, Free, Parent, Child, walk, next, cov, claimsOf, overOf, Under}
 use Rattle.tables.specs.Rules.R5.{Full, FileChain, Stands, R5}
 use Rattle.tables.specs.Rules.R6.{Run}
 use Rattle.tables.specs.Rules.R9.{freeOne}
@@ -68,8 +68,8 @@ module _ (x f : ℕ) (q : Pointer) (lo : 1 ≤ x) (hi : x ≤ 4096) where
   pub no-count : (j : ℕ) → 0 < j → countOf x n j ≡ 0
   no-count j l = rw new-base (u16-kept (22 + 6 * j + 4) kept (inr (omega arith)) ∙ child-zero16 x f (22 + 6 * j + 4) (omega arith))
 
-  pub new-over : (s : ℕ) → overOf x n s ≡ cov (q .start .0) (q .count) s
-  unfolding overOf
+  pub new-over : (s : ℕ) → claimsOf x n s ≡ cov (q .start .0) (q .count) s
+  unfolding claimsOf overOf
   new-over s =
       rw new-slots (sum-first 17 _ (omega arith) (λ j h l. rw (no-count j l) (cov-none _ s)) ∙ ap₂ (λ (a c : ℕ). cov a c s) new-start new-count)
 
@@ -209,8 +209,10 @@ module _ (v v' : View) (f : ℕ) (q : Pointer) (c : Cursor) (w : Extended v v' f
       r4 = pop-R4 v v' f x change refl (w .head) (h .r4);
       r5 = changed-R5 v v' f x change (h .r5) (suc (e .long)) chain (stands (h .r5)) (λ b. (0, rw slots (omega arith), used-first));
       r6 = changed-R6 v v' f x change shape-but (h .r6);
-      r7 = λ s l lo. (let l' : s < 1024 * (v .zones - 1) = rw (w .ground .zones) at l in
-          omega (arith, pointers-at v v' f x change s, over-none x (v .table x) s (free .word), over s, less s, h .r7 s l' lo, w .ground .bit s (omega arith)));
+      r7 = record {
+        count = λ s l lo. (let l' : s < 1024 * (v .zones - 1) = rw (w .ground .zones) at l in
+            omega (arith, pointers-at v v' f x change s, over-none x (v .table x) s (free .word), over s, less s, h .r7 .count s l' lo, w .ground .bit s (omega arith)));
+      };
       r8 = changed-R8 v v' f x change (h .r6) (h .r8);
       r9 = changed-R9 v v' f x change 0 0 (freeOne x (v .table x)) 0 0 0 0 (freeOne x t') 0 0 (ones-other x (v .table x) (λ g. omega (arith, free .low, free .word)))
           (ones-other x t' (λ g. omega (arith, child .word, free .low, small)))
@@ -240,7 +242,7 @@ module _ (v v' : View) (f : ℕ) (q : Pointer) (c : Cursor) (w : Extended v v' f
       base : baseOf x t' ≡ 22
       base = rw (w .new) (new-base x f q (free .low) small)
 
-      over : (s : ℕ) → overOf x t' s ≡ cov (q .start .0) (q .count) s
+      over : (s : ℕ) → claimsOf x t' s ≡ cov (q .start .0) (q .count) s
       over s = rw (w .new) (new-over x f q (free .low) small s)
 
       sectors : sectorsOf x t' ≡ q .count

@@ -14,18 +14,18 @@ use Rattle.field.proofs.Sums.{sum-le, sum-part}
 use Rattle.tables.specs.declared.places.Places.{Places}
 use Rattle.tables.specs.declared.kinds.Index.{Index}
 use Rattle.tables.specs.Kinds.{firstOf}
-use Rattle.tables.specs.Blocks.{Typed, blockOf, perZone}
+use Rattle.tables.specs.Blocks.{DataType, blockOf, perZone}
 use Rattle.tables.specs.Indexes.{slotsOf, baseOf, directoryBit, systemBit, pointerPlace}
 use Rattle.tables.specs.Open.{isOpen, openZones}
 use Rattle.tables.specs.Places.{Layout}
 use Rattle.tables.specs.Room.{countAt, spareIn, spareOf, lackOf, Enough}
 use Rattle.tables.specs.Sector1.{freeOf, firstFreeOf, activeOf, systemOf, directoryOf}
 use Rattle.tables.specs.Views.{View, viewOf, Begins, Free, Parent, onlyIf}
-use Rattle.tables.specs.Lawful.{Lawful}
+use Rattle.tables.specs.Lawful.{LawfulWith}
 use Rattle.tables.specs.Rules.R3.{R3}
 use Rattle.tables.specs.Rules.R6.{Shape}
 use Rattle.tables.specs.Rules.R9.{activeOne, systemOne, directoryOne}
-use Rattle.tables.proofs.BlockLaws.{six}
+use Rattle.tables.proofs.BlockLaws.{data-zone, six}
 use Rattle.tables.proofs.ChoiceLaws.{ceil-enough}
 use Rattle.tables.proofs.Sector1CountLaws.{only-le, tally-few, active-le, system-le, directory-le}
 use Rattle.tables.proofs.IndexLaws.{slots-free, slots-in, base-low}
@@ -41,7 +41,7 @@ use Rattle.allocation.specs.Last.{lastTable, usedPointers, cursorOf}
 use Rattle.allocation.specs.Stock.{Stocked, Plannable}
 use Rattle.allocation.specs.Steps.{SameCounts, Made}
 use Rattle.allocation.specs.Ready.{Head, InTable, Chained, Ready}
-use Rattle.allocation.specs.MadeFiles.{onlyCounts, Provided, started, created, putChange, grown}
+use Rattle.allocation.specs.MadeFiles.{onlyCounts, ProvidedWith, started, created, putChange, grown}
 use Rattle.allocation.proofs.FindLaws.{either}
 use Rattle.allocation.proofs.NextGround.{stocked-ground}
 use Rattle.allocation.proofs.OrderLaws.{order-typed, order-enough}
@@ -57,30 +57,30 @@ pub length-only : (t n : ℕ) → length (onlyCounts t n) ≡ 6
 unfolding onlyCounts
 length-only t n = refl
 
-pub order-only : (t n : ℕ) → Typed t → inOrder (onlyCounts t n) ≡ replicate n t
+pub order-only : (t n : ℕ) → DataType t → inOrder (onlyCounts t n) ≡ replicate n t
 unfolding inOrder onlyCounts onlyIf
 order-only t n = six (λ t. inOrder (onlyCounts t n) ≡ replicate n t)
     (append-nil (replicate n 3)) (append-nil (replicate n 4)) (append-nil (replicate n 5)) (append-nil (replicate n 6)) (append-nil (replicate n 7)) (append-nil (replicate n 8)) t
 
-pub count-only : (t n u : ℕ) → Typed t → Typed u → countAt (onlyCounts t n) u ≡ onlyIf (eqb u t) n
+pub count-only : (t n u : ℕ) → DataType t → DataType u → countAt (onlyCounts t n) u ≡ onlyIf (eqb u t) n
 unfolding onlyCounts
 count-only t n u typed = six (λ u. countAt (onlyCounts t n) u ≡ onlyIf (eqb u t) n) refl refl refl refl refl refl u
 
 -- the count, put at its place among zeros
-pub only-put : (t n : ℕ) → Typed t → set (replicate 6 0) (8 - t) n ≡ onlyCounts t n
+pub only-put : (t n : ℕ) → DataType t → set (replicate 6 0) (8 - t) n ≡ onlyCounts t n
 unfolding onlyCounts onlyIf
 only-put t n = six (λ t. set (replicate 6 0) (8 - t) n ≡ onlyCounts t n) refl refl refl refl refl refl t
 
 -- ---- how many blocks there can be
 
 -- by R3 a zone has 1,024 free blocks at most
-spare-few : (v : View) (t z : ℕ) → R3 v → 2 ≤ z → z < v .zones → Typed t → spareIn t (v .zone z) ≤ 1024
+spare-few : (v : View) (t z : ℕ) → R3 v → 2 ≤ z → z < v .zones → DataType t → spareIn t (v .zone z) ≤ 1024
 spare-few v t z r lo hi typed =
     let e = v .zone z in
     ⊎-elim (λ h. (let q = in-open t e (isOpen e) refl h in omega arith))
     (λ h. elim (ℕ-discrete (e .ztype) t) [
       | yes is ↦ (let q = in-begun t e (isOpen e) refl h is in
-          let b = r z hi lo (rw is typed) in
+          let b = r z hi lo (rw is (data-zone typed)) in
           let s : ℕ = blockOf (e .ztype) in
           omega (arith, b .number, sum-le (1024 / s) (λ k. 1 - v .bit (firstOf z + k * s)) (λ k l. omega arith), div-le-self 1024 s))
       | no ne ↦ (let q = in-other t e (isOpen e) refl h ne in omega arith)
@@ -92,7 +92,7 @@ unfolding sumTo
 sum-few zero f h = omega arith
 sum-few (suc n) f h = omega (arith, sum-few n f (λ k l. h k (omega arith)), h n (omega arith))
 
-spares-few : (v : View) (t : ℕ) → R3 v → v .zones ≤ 256 → Typed t → spareOf v t ≤ 260096
+spares-few : (v : View) (t : ℕ) → R3 v → v .zones ≤ 256 → DataType t → spareOf v t ≤ 260096
 unfolding spareOf
 spares-few v t r most typed = omega (arith, sum-few (v .zones - 2) (λ i. spareIn t (v .zone (i + 2))) (λ i l. spare-few v t (i + 2) r (omega arith) (omega arith) typed))
 
@@ -101,7 +101,7 @@ unfolding openZones
 open-few v most = omega (arith, sum-le (v .zones - 2) (λ k. onlyIf (isOpen (v .zone (k + 2))) 1) (λ k l. only-le (isOpen (v .zone (k + 2))) 1))
 
 -- what can be supplied of one type: the free blocks, and open zones of 1,024 blocks at most
-lack-few : (v : View) (t n : ℕ) → R3 v → v .zones ≤ 256 → Typed t → lackOf v t n ≤ 254 → n ≤ 520192
+lack-few : (v : View) (t n : ℕ) → R3 v → v .zones ≤ 256 → DataType t → lackOf v t n ≤ 254 → n ≤ 520192
 unfolding lackOf
 lack-few v t n r most typed h =
     let per : ℕ = perZone t in
@@ -113,7 +113,7 @@ lack-few v t n r most typed h =
       mul-le-mul-right {m = per} {n = 1024} (lackOf v t n) (div-le-self 1024 (blockOf t)),
     )
 
-supplied-few : (v : View) (c : ℕ → ℕ) → R3 v → v .zones ≤ 256 → Enough v c → (t : ℕ) → Typed t → c t ≤ 520192
+supplied-few : (v : View) (c : ℕ → ℕ) → R3 v → v .zones ≤ 256 → Enough v c → (t : ℕ) → DataType t → c t ≤ 520192
 supplied-few v c r most enough t typed =
     let e : t - 3 + 3 ≡ t = omega (arith, typed .low) in
     lack-few v t (c t) r most typed (rw e at (let q = sum-part 6 (t - 3) (λ i. lackOf v (i + 3) (c (i + 3))) (omega (arith, typed .high)) in
@@ -125,7 +125,7 @@ order-few [] h = omega arith
 order-few (n ∷ ns) h =
     omega (arith, length-append (replicate n (length ns + 3)) (inOrder ns), length-replicate n (length ns + 3), h 0 (omega arith), order-few ns (λ i l. h (suc i) (omega arith)))
 
-module _ (p : Places) (b : List ℕ) (counts : List ℕ) (layout : Layout p (length b)) (lawful : Lawful p b) (six : length counts ≡ 6) (room : Enough (viewOf p b) (countAt counts)) where
+module _ (p : Places) (b : List ℕ) (counts : List ℕ) (layout : Layout p (length b)) {extra : ℕ → ℕ} (lawful : LawfulWith extra p b) (six : length counts ≡ 6) (room : Enough (viewOf p b) (countAt counts)) where
   order-most : length (inOrder counts) ≤ 3121152
   order-most = omega (
     arith,
@@ -146,18 +146,18 @@ module _ (p : Places) (b : List ℕ) (counts : List ℕ) (layout : Layout p (len
 
 -- ---- a new file
 
-pub chained-lawful : (p : Places) (b : List ℕ) → Lawful p b → Chained p b
+pub chained-lawful : (p : Places) (b : List ℕ) {extra : ℕ → ℕ} → LawfulWith extra p b → Chained p b
 chained-lawful p b h = record { r4 = h .r4; free = h .r9 .free }
 
 -- it takes one table at least
 tables-head : (p : Places) (b ts : List ℕ) → Chained p b → tablesFor p b noPointer ts ≤ freeOf b → Head p b
 tables-head p b ts c l = chained-head p b c (omega (arith, tables-least p b noPointer ts))
 
-pub provided-head : (p : Places) (b counts : List ℕ) → Provided p b noPointer counts → Head p b
+pub provided-head : (p : Places) (b counts : List ℕ) {extra : ℕ → ℕ} → ProvidedWith extra p b noPointer counts → Head p b
 provided-head p b counts h = tables-head p b (inOrder counts) (chained-lawful p b (h .lawful)) (h .tables)
 
 -- what the parent's making leaves of sector 1: the counts can be raised
-module _ (p : Places) (b counts name date : List ℕ) (long attribute : ℕ) (x : List ℕ) (h : Provided p b noPointer counts) (ln : length name ≤ 24) (ld : length date ≡ 6)
+module _ (p : Places) (b counts name date : List ℕ) (long attribute : ℕ) (x : List ℕ) {extra : ℕ → ℕ} (h : ProvidedWith extra p b noPointer counts) (ln : length name ≤ 24) (ld : length date ≡ 6)
     (ex : x ≡ putNewParent p b (record { name = name; date = date; length = long; attribute = attribute })) where
   abbrev n : New
   n = record { name = name; date = date; length = long; attribute = attribute }
@@ -227,7 +227,7 @@ module _ (p : Places) (b ts : List ℕ) (n : New) (layout : Layout p (length b))
         file = omega (arith, begun-head .high, layout .few);
       }
 
-pub ready-start : (p : Places) (b counts : List ℕ) (n : New) → Provided p b noPointer counts → length (n .name) ≤ 24 → length (n .date) ≡ 6
+pub ready-start : (p : Places) (b counts : List ℕ) (n : New) {extra : ℕ → ℕ} → ProvidedWith extra p b noPointer counts → length (n .name) ≤ 24 → length (n .date) ≡ 6
     → Ready p (firstFreeOf b) (started p b n) (inOrder counts)
 ready-start p b counts n h =
     begun-ready p b (inOrder counts) n (h .layout) (order-stocked p b counts (h .layout) (h .lawful) (h .six) (h .room)) (chained-lawful p b (h .lawful))
@@ -243,7 +243,7 @@ module _ (v : View) (i : ℕ) (t : List ℕ) (s : Shape v i t) (some : 1 ≤ use
   last-few : u16At t (pointerPlace (slotsOf i t) (usedPointers i t) + 4) ≤ 32767
   last-few = rw place-is (s .used (usedPointers i t - 1) (omega (arith, used-le i t)) (used-before i t (usedPointers i t - 1) (omega arith)) .few)
 
-module _ (p : Places) (b : List ℕ) (f : ℕ) (lay : Layout p (length b)) (law : Lawful p b) (parent : Parent (viewOf p b) f) where
+module _ (p : Places) (b : List ℕ) (f : ℕ) (lay : Layout p (length b)) {extra : ℕ → ℕ} (law : LawfulWith extra p b) (parent : Parent (viewOf p b) f) where
   abbrev v : View
   v = viewOf p b
 
@@ -274,7 +274,7 @@ module _ (p : Places) (b : List ℕ) (f : ℕ) (lay : Layout p (length b)) (law 
   unfolding cursorOf
   cursor-bounds = (last-few v i (v .table i) shape some, omega arith)
 
-pub ready-grow : (p : Places) (b : List ℕ) (f : ℕ) (counts : List ℕ) → Provided p b (cursorOf p b f .tail) counts → Parent (viewOf p b) f
+pub ready-grow : (p : Places) (b : List ℕ) (f : ℕ) (counts : List ℕ) {extra : ℕ → ℕ} → ProvidedWith extra p b (cursorOf p b f .tail) counts → Parent (viewOf p b) f
     → Ready p f (record { books = b; cursor = cursorOf p b f }) (inOrder counts)
 unfolding cursorOf
 ready-grow p b f counts h parent =
@@ -303,7 +303,7 @@ module _ (p : Places) (b counts name date : List ℕ) (long attribute : ℕ) (x 
   create-from : _≡_ {A = Growth} (record { books = x; cursor = record { tail = t; table = f } }) (started p b file)
   create-from = rw et ex
 
-  pub create-ready : Provided p b noPointer counts → length name ≤ 24 → length date ≡ 6 → Ready p (f .0) (record { books = x; cursor = record { tail = t; table = f } }) (inOrder counts)
+  pub create-ready : {extra : ℕ → ℕ} → ProvidedWith extra p b noPointer counts → length name ≤ 24 → length date ≡ 6 → Ready p (f .0) (record { books = x; cursor = record { tail = t; table = f } }) (inOrder counts)
   create-ready h ln ld = rw (create-from, ef) (ready-start p b counts file h ln ld)
 
   pub create-is : (y : List ℕ) (r : Cursor)
@@ -315,7 +315,7 @@ module _ (p : Places) (b counts name date : List ℕ) (long attribute : ℕ) (x 
       ap (λ (g : Growth). g .books) e
 
 module _ (p : Places) (b : List ℕ) (f : ℕ) (counts : List ℕ) (c : Cursor) (ec : c ≡ cursorOf p b f) where
-  pub grow-ready : Provided p b (cursorOf p b f .tail) counts → Parent (viewOf p b) f → Ready p f (record { books = b; cursor = c }) (inOrder counts)
+  pub grow-ready : {extra : ℕ → ℕ} → ProvidedWith extra p b (cursorOf p b f .tail) counts → Parent (viewOf p b) f → Ready p f (record { books = b; cursor = c }) (inOrder counts)
   grow-ready h parent = rw ec (ready-grow p b f counts h parent)
 
   pub grow-is : (x y date : List ℕ) (long : ℕ) (r : Cursor)

@@ -13,25 +13,25 @@ use Rattle.field.proofs.Frames.{kept-trans, kept-wider}
 use Rattle.field.proofs.NumberLaws.{u16-kept, kept-putU32, u32-put-same}
 use Rattle.field.proofs.PartLaws.{over-part, same-at}
 use Rattle.tables.specs.declared.places.Places.{Places}
-use Rattle.tables.specs.Blocks.{Typed, blockOf}
+use Rattle.tables.specs.Blocks.{DataType, blockOf}
 use Rattle.tables.specs.Counts.{blockBytes}
 use Rattle.tables.specs.Dates.{Date}
 use Rattle.tables.specs.Places.{Layout}
 use Rattle.tables.specs.Indexes.{tablePlace, tableAt, putChanged, nameOf, createdOf, changedOf, lengthOf, attributeOf, Used, variableBit}
 use Rattle.tables.specs.Views.{View, viewOf, Parent}
 use Rattle.tables.specs.Rules.R8.{fileSectors, fileType, InType, File}
-use Rattle.tables.specs.Lawful.{Lawful}
-use Rattle.tables.proofs.BlockLaws.{block-of}
+use Rattle.tables.specs.Lawful.{LawfulWith}
+use Rattle.tables.proofs.BlockLaws.{data-block}
 use Rattle.tables.proofs.ChoiceLaws.{ceil-enough}
 use Rattle.tables.proofs.IndexLaws.{length-table}
 use Rattle.allocation.specs.Last.{lastTable, cursorOf}
-use Rattle.allocation.specs.Held.{Held, Ends, nothing}
+use Rattle.allocation.specs.Held.{Held, Ends}
 use Rattle.allocation.specs.Steps.{SameCounts}
 use Rattle.allocation.specs.Choice.{inOrder, inTurn}
 use Rattle.allocation.specs.Growth.{Growth, addBlock}
 use Rattle.allocation.specs.Ready.{Ready}
 use Rattle.allocation.specs.Lengthened.{sectorsIn, AllOf, Quiet, Lengthened}
-use Rattle.allocation.specs.MadeFiles.{Provided, blocksFor, putChange, grown}
+use Rattle.allocation.specs.MadeFiles.{ProvidedWith, blocksFor, putChange, grown}
 use Rattle.allocation.proofs.LastLaws.{last-table, used-le, used-before, used-not, last-shape, last-some}
 use Rattle.allocation.proofs.FileLaws.{ready-grow}
 use Rattle.allocation.proofs.MadeHeld.{lawful-held}
@@ -45,7 +45,7 @@ use Rattle.allocation.proofs.RestatedLaws.{Restated, restated-parent, r
 
 -- ---- where file f goes on
 
-module _ (p : Places) (b : List ℕ) (f : ℕ) (h : Lawful p b) (parent : Parent (viewOf p b) f) where
+module _ (p : Places) (b : List ℕ) (f : ℕ) {extra : ℕ → ℕ} (h : LawfulWith extra p b) (parent : Parent (viewOf p b) f) where
   abbrev v : View
   v = viewOf p b
 
@@ -69,8 +69,8 @@ module _ (p : Places) (b : List ℕ) (f : ℕ) (h : Lawful p b) (parent : Parent
 
 -- ---- a file of lawful books
 
-module _ (p : Places) (b : List ℕ) (f : ℕ) (l : Lawful p b) where
-  pub rules-held : Held (viewOf p b) f nothing
+module _ (p : Places) (b : List ℕ) (f : ℕ) {extra : ℕ → ℕ} (l : LawfulWith extra p b) where
+  pub rules-held : Held (viewOf p b) f extra
   rules-held = lawful-held (viewOf p b) f (l .r2) (l .r3) (l .r4) (l .r5) (l .r6) (l .r7) (l .r8) (l .r9)
 
   was-used : Parent (viewOf p b) f → Used f (tableAt p b f) 0
@@ -78,15 +78,15 @@ module _ (p : Places) (b : List ℕ) (f : ℕ) (l : Lawful p b) where
 
 -- ---- its type, and how many blocks it lacks
 
-pub lawful-typed : (p : Places) (b : List ℕ) (f : ℕ) → Lawful p b → Parent (viewOf p b) f → Typed (fileType (viewOf p b) f)
+pub lawful-typed : (p : Places) (b : List ℕ) (f : ℕ) {extra : ℕ → ℕ} → LawfulWith extra p b → Parent (viewOf p b) f → DataType (fileType (viewOf p b) f)
 lawful-typed p b f l parent = file-typed (viewOf p b) f (rules-held p b f l) parent (was-used p b f l parent)
 
-pub blocks-enough : (v : View) (f long : ℕ) → Typed (fileType v f) → long ≤ 1024 * (fileSectors v f + blocksFor v f long * blockOf (fileType v f))
+pub blocks-enough : (v : View) (f long : ℕ) → DataType (fileType v f) → long ≤ 1024 * (fileSectors v f + blocksFor v f long * blockOf (fileType v f))
 unfolding blocksFor blockBytes
 blocks-enough v f long typed =
     omega (
       arith,
-      ceil-enough (long - 1024 * fileSectors v f) (1024 * blockOf (fileType v f)) (omega (arith, block-of (fileType v f) typed .some)),
+      ceil-enough (long - 1024 * fileSectors v f) (1024 * blockOf (fileType v f)) (omega (arith, data-block (fileType v f) typed .some)),
       mul-assoc 1024 (blockOf (fileType v f)) (blocksFor v f long),
       mul-comm (blockOf (fileType v f)) (blocksFor v f long),
     )
@@ -100,7 +100,7 @@ pub record Resized (v v' : View) (f : ℕ) : Type 0 where
   pub free : v' .free ≡ v .free
   pub counts : SameCounts v v'
 
-resized-held : (v v' : View) (f : ℕ) → Resized v v' f → v .indexes ≤ 4096 → Parent v f → Held v f nothing → Held v' f nothing
+resized-held : (v v' : View) (f : ℕ) {extra : ℕ → ℕ} → Resized v v' f → v .indexes ≤ 4096 → Parent v f → Held v f extra → Held v' f extra
 resized-held v v' f w few parent h =
     restated-held v v' f (w .restated) few parent h
     (stay-R9 v v' f f (restated-change v v' f (w .restated) few parent) (word-kept f (w .restated .here) (omega arith)) (λ e. w .attribute) (w .counts) (w .free) (h .r9))
@@ -157,8 +157,8 @@ module _ (p : Places) (b : List ℕ) (f long : ℕ) (date : List ℕ) (lay : Lay
 
 -- ---- a file that has grown
 
-module _ (p : Places) (b : List ℕ) (f : ℕ) (counts : List ℕ) (long : ℕ) (date : List ℕ) (lay : Layout p (length b)) (old : Lawful p b) (parent : Parent (viewOf p b) f)
-    (six : length date ≡ 6) (g : Growth) (h : Lengthened p f (record { books = b; cursor = cursorOf p b f }) g (inOrder counts)) where
+module _ (p : Places) (b : List ℕ) (f : ℕ) (counts : List ℕ) (long : ℕ) (date : List ℕ) (lay : Layout p (length b)) {extra : ℕ → ℕ} (old : LawfulWith extra p b) (parent : Parent (viewOf p b) f)
+    (six : length date ≡ 6) (g : Growth) (h : Lengthened extra p f (record { books = b; cursor = cursorOf p b f }) g (inOrder counts)) where
   abbrev a : List ℕ
   a = g .books
 
@@ -184,7 +184,7 @@ module _ (p : Places) (b : List ℕ) (f : ℕ) (counts : List ℕ) (long : ℕ) 
       rw (length-new p a f long date lay-a (parent .low) (parent .high) six) (new-fields p a f long date lay-a (parent .low) (parent .high) six
       (fields-front {t = t} {changed = changedOf t} {long = lengthOf t} (length-table p a f lay-a (parent .low) (parent .high)) (h .front) old))
 
-  held : Held (viewOf p c) f nothing
+  held : Held (viewOf p c) f extra
   held = resized-held (viewOf p a) (viewOf p c) f resized (lay .few) (h .ends .parent) (h .held)
 
   sectors : fileSectors (viewOf p c) f ≡ fileSectors (viewOf p b) f + sectorsIn (inOrder counts)
@@ -207,16 +207,16 @@ module _ (p : Places) (b : List ℕ) (f : ℕ) (counts : List ℕ) (long : ℕ) 
         in-one (viewOf p c) f held now-parent used t (restated-types (viewOf p a) (viewOf p c) f (resized .restated) (lay .few) (h .ends .parent) (h .held) t
         (h .types t all (was-file .variable variable)))
 
-    lawful : Lawful p c
+    lawful : LawfulWith extra p c
     lawful = held-rules p c f (quiet-R1 p b c quiet (old .r1)) held (λ q. used) (λ w.
         fields-file (viewOf p c) f (tableAt p c f) (nameOf (tableAt p b f)) (createdOf (tableAt p b f)) date long (attributeOf (tableAt p b f)) fields
         (was-file .name) (was-file .created) valid least (rw sectors most) (λ e. omega arith) (λ e. one) (was-file .weights) (was-file .both))
 
-module _ (p : Places) (b : List ℕ) (f : ℕ) (counts : List ℕ) (has : Provided p b (cursorOf p b f .tail) counts) (parent : Parent (viewOf p b) f) where
+module _ (p : Places) (b : List ℕ) (f : ℕ) (counts : List ℕ) {extra : ℕ → ℕ} (has : ProvidedWith extra p b (cursorOf p b f .tail) counts) (parent : Parent (viewOf p b) f) where
   abbrev begun : Growth
   begun = record { books = b; cursor = cursorOf p b f }
 
-  pub grown-lengthened : Lengthened p f (record { books = b; cursor = cursorOf p b f }) (inTurn (addBlock p f) (inOrder counts) (record { books = b; cursor = cursorOf p b f })) (inOrder counts)
+  pub grown-lengthened : Lengthened extra p f (record { books = b; cursor = cursorOf p b f }) (inTurn (addBlock p f) (inOrder counts) (record { books = b; cursor = cursorOf p b f })) (inOrder counts)
   grown-lengthened = adds-held p f (inOrder counts) begun (ready-grow p b f counts has parent) (rules-held p b f (has .lawful)) (cursor-ends p b f (has .lawful) parent)
 
   -- whatever the date's bytes are
@@ -237,14 +237,14 @@ module _ (p : Places) (b : List ℕ) (f : ℕ) (counts : List ℕ) (has : Provid
     unfolding grown
     grown-attribute = fields p b f counts long date (has .layout) (has .lawful) parent six _ grown-lengthened .attribute'
 
-pub grown-lawful : (p : Places) (b : List ℕ) (f : ℕ) (counts : List ℕ) (long : ℕ) (date : List ℕ) → Provided p b (cursorOf p b f .tail) counts → Parent (viewOf p b) f
+pub grown-lawful : (p : Places) (b : List ℕ) (f : ℕ) (counts : List ℕ) (long : ℕ) (date : List ℕ) {extra : ℕ → ℕ} → ProvidedWith extra p b (cursorOf p b f .tail) counts → Parent (viewOf p b) f
     → variableBit (attributeOf (tableAt p b f)) ≡ 1 → AllOf (inOrder counts) (fileType (viewOf p b) f) → Date date → long < 2147483648
     → long ≤ 1024 * (fileSectors (viewOf p b) f + sectorsIn (inOrder counts)) → Ready p f (record { books = b; cursor = cursorOf p b f }) (inOrder counts)
-    → Lawful p (grown p b f counts long date)
+    → LawfulWith extra p (grown p b f counts long date)
 unfolding grown
 grown-lawful p b f counts long date has parent variable all valid least most ready =
     lawful p b f counts long date (has .layout) (has .lawful) parent (valid .long) _ (grown-lengthened p b f counts has parent) valid variable all least most
 
-pub grown-quiet : (p : Places) (b : List ℕ) (f : ℕ) (counts : List ℕ) (long : ℕ) (date : List ℕ) → Provided p b (cursorOf p b f .tail) counts → Parent (viewOf p b) f → Date date
+pub grown-quiet : (p : Places) (b : List ℕ) (f : ℕ) (counts : List ℕ) (long : ℕ) (date : List ℕ) {extra : ℕ → ℕ} → ProvidedWith extra p b (cursorOf p b f .tail) counts → Parent (viewOf p b) f → Date date
     → Ready p f (record { books = b; cursor = cursorOf p b f }) (inOrder counts) → Quiet p b (grown p b f counts long date)
 grown-quiet p b f counts long date has parent valid ready = grown-calm p b f counts has parent long date (valid .long)

@@ -6,14 +6,15 @@ use Prim.Native.Nat.{ℕ, _+_, _-_, _≤_, _<_}
 use native.Mathlib.Omega.{arith}
 use lib.ListN.{length, getD, drop, replicate}
 use Rattle.tables.specs.declared.places.Places.{Places}
-use Rattle.tables.specs.Blocks.{Typed}
+use Rattle.tables.specs.Blocks.{DataType}
 use Rattle.tables.specs.Places.{Layout}
 use Rattle.tables.specs.Views.{viewOf}
+use Rattle.allocation.specs.declared.choice.Choice.{Choice}
 use Rattle.allocation.specs.declared.choice.Found.{Found}
-use Rattle.allocation.specs.Choice.{nextBlock, inOrder, inTurn}
+use Rattle.allocation.specs.Choice.{choose, inOrder, inTurn}
 use Rattle.allocation.specs.Growth.{Growth, laid}
 use Rattle.allocation.specs.Plans.{planned, laidOr, stepOr}
-use Rattle.allocation.specs.Candidates.{Behind}
+use Rattle.allocation.specs.Candidates.{Behind, Chooses}
 use Rattle.allocation.specs.Ready.{Laying, Planning, LayingOr, ReadyOr}
 use Rattle.allocation.proofs.TurnLaws.{turn-none, turn-step, turns-left, turns-more, turns-end, order-left, orders-more, orders-end}
 use Rattle.allocation.proofs.NextLaws.{behind-start}
@@ -22,7 +23,7 @@ use Rattle.allocation.proofs.ReadyLaws.{add-is, ready-proper, ready-lay
 
 -- ---- a step
 
-step-is : (w : Bool) (p : Places) (f t : ℕ) (g : Growth) → stepOr w p f t g ≡ laidOr w p f t (nextBlock (viewOf p (g .books)) t) g
+step-is : (w : Bool) (p : Places) (f t : ℕ) (g : Growth) → stepOr w p f t g ≡ laidOr w p f t (choose (viewOf p (g .books)) (g .cursor .tail) t) g
 step-is true p f t g = add-is p f t g
 step-is false p f t g = plan-is p t g
 
@@ -31,11 +32,11 @@ or-layout true p f g ts h = h .layout
 or-layout false p f g ts h = h .layout
 
 module _ (p : Places) (f : ℕ) (g : Growth) (t : ℕ) (ts : List ℕ) where
-  or-typed : (w : Bool) → ReadyOr w p f g (t ∷ ts) → Typed t
+  or-typed : (w : Bool) → ReadyOr w p f g (t ∷ ts) → DataType t
   or-typed true h = ready-proper p f g t ts h .typed
   or-typed false h = plan-proper p g t ts h .typed
 
-  or-laying : (w : Bool) → ReadyOr w p f g (t ∷ ts) → LayingOr w p t (nextBlock (viewOf p (g .books)) t) g
+  or-laying : (w : Bool) → ReadyOr w p f g (t ∷ ts) → LayingOr w p t (choose (viewOf p (g .books)) (g .cursor .tail) t) g
   or-laying true h = ready-laying p f g t ts h
   or-laying false h = plan-planning p g t ts h
 
@@ -43,7 +44,7 @@ module _ (p : Places) (f : ℕ) (g : Growth) (t : ℕ) (ts : List ℕ) where
   or-step true h = ready-step p f g t ts h
   or-step false h = plan-step p g t ts h
 
-  or-behind : (w : Bool) → ReadyOr w p f g (t ∷ ts) → Behind (viewOf p (stepOr w p f t g .books)) t (nextBlock (viewOf p (g .books)) t)
+  or-behind : (w : Bool) → ReadyOr w p f g (t ∷ ts) → (r : Choice) → Chooses (viewOf p (g .books)) (g .cursor .tail) t r → Behind (viewOf p (stepOr w p f t g .books)) t (r .from)
   or-behind true h = ready-behind p f g t ts h
   or-behind false h = plan-behind p g t ts h
 
@@ -72,12 +73,12 @@ module _ (p : Places) (t : ℕ) (k : Found) (g : Growth) where
 
 -- ---- n blocks of one type, i of which are added
 
-pub record Adding (w : Bool) (p : Places) (f t n : ℕ) (g m : Growth) (last : Found) (i : ℕ) : Type 0 where
+pub record Adding (w : Bool) (p : Places) (f t n : ℕ) (g m : Growth) (from : Found) (i : ℕ) : Type 0 where
   pub within : i ≤ n
   pub long : length (m .books) ≡ length (g .books)
   pub same : inTurn (stepOr w p f) (replicate (n - i) t) m ≡ inTurn (stepOr w p f) (replicate n t) g
   pub ready : ReadyOr w p f m (replicate (n - i) t)
-  pub behind : Behind (viewOf p (m .books)) t last
+  pub behind : Behind (viewOf p (m .books)) t from
 
 pub adding-none : (w : Bool) (p : Places) (f t n : ℕ) (g : Growth) → ReadyOr w p f g (replicate n t) → Adding w p f t n g g (record { zone = record { 0 = 2 }; number = 0; free = 0 }) 0
 adding-none w p f t n g h =
@@ -90,7 +91,7 @@ adding-none w p f t n g h =
       behind = behind-start (viewOf p (g .books)) t (omega (arith, or-layout w p f g _ h .least));
     }
 
-module _ (w : Bool) (p : Places) (f t n : ℕ) (g m : Growth) (last : Found) (i : ℕ) (h : Adding w p f t n g m last i) where
+module _ (w : Bool) (p : Places) (f t n : ℕ) (g m : Growth) (from : Found) (i : ℕ) (h : Adding w p f t n g m from i) where
   pub adding-layout : Layout p (length (m .books))
   adding-layout = or-layout w p f m _ (h .ready)
 
@@ -98,22 +99,22 @@ module _ (w : Bool) (p : Places) (f t n : ℕ) (g m : Growth) (last : Found) (i 
     adding-left : ReadyOr w p f m (t ∷ replicate (n - (i + 1)) t)
     adding-left = rw (turns-left n i t l) at (h .ready)
 
-    pub adding-typed : Typed t
+    pub adding-typed : DataType t
     adding-typed = or-typed p f m t _ w adding-left
 
-    module _ (k : Found) (q : k ≡ nextBlock (viewOf p (m .books)) t) where
-      pub adding-laying : LayingOr w p t k m
-      adding-laying = rw q (or-laying p f m t _ w adding-left)
+    module _ (r : Choice) (q : Chooses (viewOf p (m .books)) (m .cursor .tail) t r) where
+      pub adding-laying : LayingOr w p t (r .block) m
+      adding-laying = rw (q .block) (or-laying p f m t _ w adding-left)
 
-      pub adding-more : (m' : Growth) → m' ≡ laidOr w p f t k m → length (m' .books) ≡ length (m .books) → Adding w p f t n g m' k (i + 1)
+      pub adding-more : (m' : Growth) → m' ≡ laidOr w p f t (r .block) m → length (m' .books) ≡ length (m .books) → Adding w p f t n g m' (r .from) (i + 1)
       adding-more m' is len =
-          let step : m' ≡ stepOr w p f t m = is ∙ ap (λ (x : Found). laidOr w p f t x m) q ∙ sym (step-is w p f t m) in
+          let step : m' ≡ stepOr w p f t m = is ∙ ap (λ (x : Found). laidOr w p f t x m) (q .block) ∙ sym (step-is w p f t m) in
           record {
             within = omega arith;
             long = len ∙ h .long;
             same = rw step (turns-more (stepOr w p f) n i t m _ (h .same) l);
             ready = rw step (or-step p f m t _ w adding-left);
-            behind = rw (step, q) (or-behind p f m t _ w adding-left);
+            behind = rw step (or-behind p f m t _ w adding-left r q);
           }
 
   pub adding-end : n ≤ i → m ≡ inTurn (stepOr w p f) (replicate n t) g

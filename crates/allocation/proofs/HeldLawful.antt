@@ -14,7 +14,7 @@ use Rattle.field.proofs.NumberLaws.{getD-part}
 use Rattle.field.proofs.PartLaws.{same-all}
 use Rattle.field.proofs.Sums.{sum-zero, sum-part}
 use Rattle.tables.specs.declared.places.Places.{Places}
-use Rattle.tables.specs.Blocks.{Typed, blockOf}
+use Rattle.tables.specs.Blocks.{DataType, blockOf}
 use Rattle.tables.specs.Counts.{blockBytes, suppliedBy}
 use Rattle.tables.specs.Each.{Each}
 use Rattle.tables.specs.Dates.{Date}
@@ -27,14 +27,14 @@ use Rattle.tables.specs.Rules.R4.{Own}
 use Rattle.tables.specs.Rules.R5.{R5}
 use Rattle.tables.specs.Rules.R6.{R6, Run}
 use Rattle.tables.specs.Rules.R8.{fileSectors, fileType, InType, File, FileLaw, R8}
-use Rattle.tables.specs.Lawful.{Lawful}
-use Rattle.tables.specs.Books.{Good}
+use Rattle.tables.specs.Lawful.{LawfulWith}
+use Rattle.tables.specs.Books.{GoodWith}
 use Rattle.tables.proofs.ChainLaws.{walk-none, chain-one}
 use Rattle.tables.proofs.Sector1CountLaws.{only-eq, only-ne}
 use Rattle.allocation.specs.declared.growth.Cursor.{Cursor}
 use Rattle.allocation.specs.Choice.{inOrder}
 use Rattle.allocation.specs.MadeFiles.{onlyCounts}
-use Rattle.allocation.specs.Held.{Held, Ends, nothing}
+use Rattle.allocation.specs.Held.{Held, Ends}
 use Rattle.allocation.specs.Lengthened.{sectorsIn, AllOf, Quiet}
 use Rattle.allocation.proofs.FileLaws.{order-only}
 use Rattle.allocation.proofs.SizeLaws.{run-typed}
@@ -43,7 +43,7 @@ use Rattle.allocation.proofs.ChangeLaws.{parent-file, free-file, child-
 
 -- ---- the nine rules
 
-module _ (v : View) (f : ℕ) (h : Held v f nothing) where
+module _ (v : View) (f : ℕ) {extra : ℕ → ℕ} (h : Held v f extra) where
   pub held-R6 : (Parent v f → Used f (v .table f) 0) → R6 v
   held-R6 used i l lo =
       let o = h .r6 i l lo in
@@ -60,8 +60,8 @@ module _ (v : View) (f : ℕ) (h : Held v f nothing) where
   pub held-R8 : FileLaw v f → R8 v
   held-R8 law i l lo = elim (ℕ-discrete i f) [ yes e ↦ rw e law | no ne ↦ h .r8 i l lo ne ]
 
-pub held-rules : (p : Places) (b : List ℕ) (f : ℕ) → R1 p b → Held (viewOf p b) f nothing → (Parent (viewOf p b) f → Used f (viewOf p b .table f) 0) → FileLaw (viewOf p b) f
-    → Lawful p b
+pub held-rules : (p : Places) (b : List ℕ) (f : ℕ) {extra : ℕ → ℕ} → R1 p b → Held (viewOf p b) f extra → (Parent (viewOf p b) f → Used f (viewOf p b .table f) 0) → FileLaw (viewOf p b) f
+    → LawfulWith extra p b
 held-rules p b f r1 h used law =
     let v = viewOf p b in
     record {
@@ -71,7 +71,7 @@ held-rules p b f r1 h used law =
       r4 = h .r4;
       r5 = h .r5;
       r6 = held-R6 v f h used;
-      r7 = λ s l lo. omega (arith, h .r7 s l lo);
+      r7 = h .r7;
       r8 = held-R8 v f h law;
       r9 = h .r9;
     }
@@ -93,7 +93,7 @@ module _ (p : Places) (b b' : List ℕ) (q : Quiet p b b') where
   pub quiet-R1 : R1 p b → R1 p b'
   quiet-R1 r = record { stand = rw (q .len) (r .stand); tails = q .tails (r .stand) (r .tails) }
 
-pub quiet-good : (b b' : List ℕ) (p : Places) → Good b p → Quiet p b b' → Lawful p b' → Good b' p
+pub quiet-good : (b b' : List ℕ) (p : Places) {extra : ℕ → ℕ} → GoodWith extra b p → Quiet p b b' → LawfulWith extra p b' → GoodWith extra b' p
 quiet-good b b' p g q lawful = record {
   places = g .places ∙ sym (quiet-places p b b' q);
   sized = record { whole = rw (q .len) (g .sized .whole); least = rw (q .len) (g .sized .least); most = rw (q .len) (g .sized .most) };
@@ -188,7 +188,7 @@ module _ (v : View) (f : ℕ) (few : v .indexes ≤ 4096) (r5 : R5 v) (c : Curso
     ]
   ]
 
-module _ (v : View) (f : ℕ) (h : Held v f nothing) (parent : Parent v f) (used : Used f (v .table f) 0) where
+module _ (v : View) (f : ℕ) {extra : ℕ → ℕ} (h : Held v f extra) (parent : Parent v f) (used : Used f (v .table f) 0) where
   first-slot : 0 < slotsOf f (v .table f)
   first-slot = omega (arith, parent-slots v f parent)
 
@@ -203,7 +203,7 @@ module _ (v : View) (f : ℕ) (h : Held v f nothing) (parent : Parent v f) (used
   pub in-one : (t : ℕ) → InType v f t → InType v f (fileType v f)
   in-one t all i j s e u = all i j s e u ∙ sym (in-file t all)
 
-  pub file-typed : Typed (fileType v f)
+  pub file-typed : DataType (fileType v f)
   file-typed = run-typed v f first-run
 
   pub some-sectors : 1 ≤ fileSectors v f
@@ -302,5 +302,5 @@ all-many zero t = tt
 all-many (suc n) t = (refl, all-many n t)
 
 -- blocks of one type only
-pub all-only : (n t : ℕ) → Typed t → AllOf (inOrder (onlyCounts t n)) t
+pub all-only : (n t : ℕ) → DataType t → AllOf (inOrder (onlyCounts t n)) t
 all-only n t typed = rw (order-only t n typed) (all-many n t)

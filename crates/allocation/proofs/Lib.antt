@@ -4,6 +4,7 @@ pub mod TakenLaws
 pub mod NextLaws
 pub mod StockLaws
 pub mod NextGround
+pub mod ChooseLaws
 pub mod OrderLaws
 pub mod TailLaws
 pub mod TableLaws

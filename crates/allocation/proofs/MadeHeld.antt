@@ -10,13 +10,13 @@ use lib.ListN.{length}
 use Rattle.field.proofs.Frames.{kept-refl}
 use Rattle.field.proofs.Sums.{sum-zero}
 use Rattle.tables.specs.Indexes.{wordOf, parentOf, attributeOf, minus, slotsOf, baseOf, startOf, countOf, Used, sectorsOf, fileOf, systemBit, directoryBit}
-use Rattle.tables.specs.Views.{View, Free, Parent, Child, walk, next, tally, overOf, Under}
+use Rattle.tables.specs.Views.{View, Free, Parent, Child, walk, next, tally, claimsOf, overOf, Under}
 use Rattle.tables.specs.Rules.R2.{R2}
 use Rattle.tables.specs.Rules.R3.{R3}
 use Rattle.tables.specs.Rules.R4.{R4}
 use Rattle.tables.specs.Rules.R5.{FileChain, R5}
 use Rattle.tables.specs.Rules.R6.{R6}
-use Rattle.tables.specs.Rules.R7.{R7}
+use Rattle.tables.specs.Rules.R7.{Owned}
 use Rattle.tables.specs.Rules.R8.{fileSectors, InType, R8}
 use Rattle.tables.specs.Rules.R9.{freeOne, R9}
 use Rattle.tables.proofs.ChainLaws.{walk-none}
@@ -27,27 +27,27 @@ use Rattle.tables.proofs.SameLaws.{ground-R2, ground-R3}
 use Rattle.allocation.specs.NewTables.{New}
 use Rattle.allocation.specs.NextPointer.{noPointer}
 use Rattle.allocation.specs.Steps.{parentBytes, Made}
-use Rattle.allocation.specs.Held.{ShapeBut, Held, nothing, Ends}
+use Rattle.allocation.specs.Held.{ShapeBut, Held, Ends}
 use Rattle.allocation.proofs.PointerBytes.{parent-word, parent-attribute, parent-zero32, parent-zero16, parent-header}
 use Rattle.allocation.proofs.ChainedLaws.{head-free}
 use Rattle.allocation.proofs.ChangeLaws.{Changed, free-file, parent-file, child-file, begins-was, file-there, parent-there, pop-R4, changed-R5, changed-R6, pointers-at, sectors-at, changed-R8, free-less, changed-R9}
 
 -- books that keep the rules are held, whatever file is to grow
-pub lawful-held : (v : View) (f : ℕ) → R2 v → R3 v → R4 v → R5 v → R6 v → R7 v → R8 v → R9 v → Held v f nothing
+pub lawful-held : (v : View) (f : ℕ) {extra : ℕ → ℕ} → R2 v → R3 v → R4 v → R5 v → R6 v → Owned v extra → R8 v → R9 v → Held v f extra
 lawful-held v f r2 r3 r4 r5 r6 r7 r8 r9 = record {
   r2 = r2;
   r3 = r3;
   r4 = r4;
   r5 = r5;
   r6 = λ i l lo. (let o = r6 i l lo in record { first = o .first; used = o .used; one = λ w ne. o .one w; header = o .header });
-  r7 = λ s l lo. omega (arith, r7 s l lo);
+  r7 = r7;
   r8 = λ p l lo ne. r8 p l lo;
   r9 = r9;
 }
 
 -- a new file
-pub record Begun (v : View) (f : ℕ) : Type 0 where
-  pub held : Held v f nothing
+pub record Begun (extra : ℕ → ℕ) (v : View) (f : ℕ) : Type 0 where
+  pub held : Held v f extra
   pub ends : Ends v f (record { tail = noPointer; table = record { 0 = f } })
   pub sectors : fileSectors v f ≡ 0
   pub types : (t : ℕ) → InType v f t
@@ -76,8 +76,8 @@ module _ (x : ℕ) (n : New) (lo : 1 ≤ x) (name : length (n .name) ≤ 24) (da
   no-count : (j : ℕ) → countOf x t j ≡ 0
   no-count j = rw new-base (parent-zero16 x n name date (64 + 6 * j + 4) (omega arith))
 
-  new-over : (s : ℕ) → overOf x t s ≡ 0
-  unfolding overOf
+  new-over : (s : ℕ) → claimsOf x t s ≡ 0
+  unfolding claimsOf overOf
   new-over s = sum-zero (slotsOf x t) _ (λ j l. rw (no-count j) (cov-none _ s))
 
   new-sectors : sectorsOf x t ≡ 0
@@ -104,7 +104,7 @@ module _ (v : View) (few : v .indexes ≤ 4096) (x : ℕ) (free : Free v x) (r4 
 -- ---- the step
 
 module _ (v v' : View) (n : New) (s d : ℕ) (w : Made v v' n s d) (few : v .indexes ≤ 4096) (free : Free v (v .head)) (name : length (n .name) ≤ 24) (date : length (n .date) ≡ 6)
-    (active : n .attribute % 2 ≡ 0) (system : s ≡ systemBit (n .attribute)) (directory : d ≡ directoryBit (n .attribute)) (h : Held v (v .head) nothing) where
+    (active : n .attribute % 2 ≡ 0) (system : s ≡ systemBit (n .attribute)) (directory : d ≡ directoryBit (n .attribute)) {extra : ℕ → ℕ} (h : Held v (v .head) extra) where
   abbrev x : ℕ
   x = v .head
 
@@ -156,7 +156,7 @@ module _ (v v' : View) (n : New) (s d : ℕ) (w : Made v v' n s d) (few : v .ind
     first = λ j l u. absurd (unused (suc j) u);
     used = λ j l u. absurd (unused j u);
     one = λ e ne. absurd (ne refl);
-    header = λ e. rw (w .new) (parent-header x n name date);
+    header = λ e. rw (w .new) (record { zero = parent-header x n name date });
   }
 
   ones : Ones x t' 1 0 (freeOne x t') (systemBit (n .attribute)) (directoryBit (n .attribute))
@@ -165,7 +165,7 @@ module _ (v v' : View) (n : New) (s d : ℕ) (w : Made v v' n s d) (few : v .ind
       let o = rw a at (ones-active x t' (λ z. omega (arith, parent .word, parent .low)) (parent .word) (λ z. omega (arith, rw a at z))) in
       record { active = o .active; deleted = o .deleted; free = refl; system = o .system; directory = o .directory }
 
-  new-held : Begun v' x
+  new-held : Begun extra v' x
   new-held = record {
     held = record {
       r2 = ground-R2 v v' (w .ground) (h .r2);
@@ -173,8 +173,10 @@ module _ (v v' : View) (n : New) (s d : ℕ) (w : Made v v' n s d) (few : v .ind
       r4 = pop-R4 v v' x x change refl (w .head) (h .r4);
       r5 = changed-R5 v v' x x change (h .r5) 0 chain (λ c b e. absurd (no-child c b e)) (λ b. absurd (omega (arith, b .word, parent .word, b .high, w .indexes)));
       r6 = changed-R6 v v' x x change shape-but (h .r6);
-      r7 = λ m l lo. (let l' : m < 1024 * (v .zones - 1) = rw (w .ground .zones) at l in
-          omega (arith, pointers-at v v' x x change m, over-none x (v .table x) m (free .word), over m, h .r7 m l' lo, w .ground .bit m (omega arith)));
+      r7 = record {
+        count = λ m l lo. (let l' : m < 1024 * (v .zones - 1) = rw (w .ground .zones) at l in
+            omega (arith, pointers-at v v' x x change m, over-none x (v .table x) m (free .word), over m, h .r7 .count m l' lo, w .ground .bit m (omega arith)));
+      };
       r8 = changed-R8 v v' x x change (h .r6) (h .r8);
       r9 = changed-R9 v v' x x change 0 0 (freeOne x (v .table x)) 0 0 1 0 (freeOne x t') (systemBit (n .attribute)) (directoryBit (n .attribute))
           (ones-other x (v .table x) (λ g. omega (arith, free .low, free .word))) ones
@@ -199,7 +201,7 @@ module _ (v v' : View) (n : New) (s d : ℕ) (w : Made v v' n s d) (few : v .ind
       slots : slotsOf x t' ≡ 10
       slots = rw (w .new) (new-slots x n (free .low) name date)
 
-      over : (m : ℕ) → overOf x t' m ≡ 0
+      over : (m : ℕ) → claimsOf x t' m ≡ 0
       over m = rw (w .new) (new-over x n (free .low) name date m)
 
       sectors : sectorsOf x t' ≡ 0
@@ -212,7 +214,7 @@ module _ (v v' : View) (n : New) (s d : ℕ) (w : Made v v' n s d) (few : v .ind
             none-of v few x free (h .r4) (h .r5) i (u .low) hi (sym (file-there v v' x x change i (u .low) hi ne) ∙ e))
       ]
 
-pub made-held : (v v' : View) (n : New) (s d : ℕ) → v .indexes ≤ 4096 → Made v v' n s d → v .head ≢ 0 → R2 v → R3 v → R4 v → R5 v → R6 v → R7 v → R8 v → R9 v
-    → n .attribute % 2 ≡ 0 → s ≡ systemBit (n .attribute) → d ≡ directoryBit (n .attribute) → length (n .name) ≤ 24 → length (n .date) ≡ 6 → Begun v' (v .head)
+pub made-held : (v v' : View) (n : New) (s d : ℕ) {extra : ℕ → ℕ} → v .indexes ≤ 4096 → Made v v' n s d → v .head ≢ 0 → R2 v → R3 v → R4 v → R5 v → R6 v → Owned v extra → R8 v → R9 v
+    → n .attribute % 2 ≡ 0 → s ≡ systemBit (n .attribute) → d ≡ directoryBit (n .attribute) → length (n .name) ≤ 24 → length (n .date) ≡ 6 → Begun extra v' (v .head)
 made-held v v' n s d few w head r2 r3 r4 r5 r6 r7 r8 r9 active system directory name date =
     new-held v v' n s d w few (head-free v r4 head) name date active system directory (lawful-held v (v .head) r2 r3 r4 r5 r6 r7 r8 r9)

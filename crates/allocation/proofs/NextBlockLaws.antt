@@ -11,12 +11,12 @@ use borrow.Author.Tests.{lt-ltb, le-ltb, ltb-true, eq-eqb, ne-eqb}
 use Rattle.tables.specs.declared.kinds.Zone.{Zone}
 use Rattle.tables.specs.declared.places.Places.{Places}
 use Rattle.tables.specs.declared.zone.ZoneEntry.{ZoneEntry}
-use Rattle.tables.specs.Blocks.{Typed, blockOf, Block, perZone}
+use Rattle.tables.specs.Blocks.{DataType, blockOf, Block, perZone}
 use Rattle.tables.specs.Kinds.{firstOf}
 use Rattle.tables.specs.Open.{isOpen}
 use Rattle.tables.specs.Room.{spareIn}
 use Rattle.tables.specs.Views.{View, viewOf}
-use Rattle.tables.proofs.BlockLaws.{block-of, block-in}
+use Rattle.tables.proofs.BlockLaws.{data-block, block-in}
 use Rattle.tables.proofs.LackLaws.{in-open, in-other, in-begun}
 use Rattle.allocation.specs.declared.choice.Found.{Found}
 use Rattle.allocation.specs.Find.{find}
@@ -78,8 +78,8 @@ begun-is v t z h = spare-is t (v .zone z) (begun-spare v t z h)
 pub block-inside : (t size k : ℕ) → size ≡ blockOf t → Block size → k < perZone t → k * size + size ≤ 1024
 block-inside t size k is block l = block-in k size block (rw is l)
 
-pub block-within : (t z k : ℕ) → Typed t → 1 ≤ z → k < perZone t → firstOf z + k * blockOf t + blockOf t ≤ 1024 * z
-block-within t z k typed lo l = omega (arith, block-in k (blockOf t) (block-of t typed) l)
+pub block-within : (t z k : ℕ) → DataType t → 1 ≤ z → k < perZone t → firstOf z + k * blockOf t + blockOf t ≤ 1024 * z
+block-within t z k typed lo l = omega (arith, block-in k (blockOf t) (data-block t typed) l)
 
 -- a block that may be taken: what its zone's entry and its sectors' bits ask
 module _ (p : Places) (b : List ℕ) (t : ℕ) (k : Found) (proper : Proper (viewOf p b) t k) where

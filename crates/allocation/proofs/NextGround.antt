@@ -1,8 +1,8 @@
--- The choice of blocks sees zone entries and sectors only: on the same ground it is the same choice.
+-- The next block is found by zone entries and sectors only: on the same ground it is the same block, and the books are as well stocked.
 use mathlib.Core.Path.{_≡_, sym, ap, ap₂, _∙_}
 use mathlib.Core.List.{List}
 use Prim.Native.Nat.{ℕ, _+_, _-_, _*_, _≤_, _<_}
-use native.Mathlib.Nat.{one-le-pow, div-mul-le-self}
+use native.Mathlib.Nat.{div-mul-le-self}
 use native.Mathlib.Decide.{ℕ-discrete, decLt}
 use native.Mathlib.Omega.{arith}
 use lib.Dec.{eqb, ltb}
@@ -16,7 +16,7 @@ use Rattle.tables.specs.Room.{spareIn, spareOf, lackOf, Enough}
 use Rattle.tables.specs.Rules.R1.{ceil}
 use Rattle.tables.specs.Same.{Ground}
 use Rattle.tables.specs.Views.{View, cov, onlyIf}
-use Rattle.tables.proofs.BlockLaws.{block-end}
+use Rattle.tables.proofs.BlockLaws.{block-some, block-end}
 use Rattle.tables.proofs.SameLaws.{ground-R2, ground-R3}
 use Rattle.allocation.specs.declared.choice.Found.{Found}
 use Rattle.allocation.specs.Choice.{begun, lowestBegun, lowestOpen, isClear, lowestClear, begunBlock, openBlock, nextBlock, blockStart}
@@ -43,8 +43,7 @@ ground-trans g h = record {
 
 -- a block's first sector is in its zone, whatever its size
 block-first : (t j : ℕ) → j < perZone t → j * blockOf t < 1024
-unfolding blockOf
-block-first t j l = omega (arith, one-le-pow (t - 3) 4 (omega arith), block-end j (perZone t) (blockOf t) l, div-mul-le-self 1024 (blockOf t))
+block-first t j l = omega (arith, block-some t, block-end j (perZone t) (blockOf t) l, div-mul-le-self 1024 (blockOf t))
 
 module _ (v v' : View) (g : Ground v v') where
   -- ---- zones and blocks

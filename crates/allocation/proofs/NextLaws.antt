@@ -1,4 +1,4 @@
--- The next block: where there is room it is a free one, and none of its type is free before it.
+-- Which blocks may be chosen where there is room: the next one is of these, and none of its type is free before it.
 use mathlib.Core.Path.{_≡_, refl, sym, ap, _∙_}
 use mathlib.Core.Logic.{_≢_, _⊎_, inl, inr, ⊎-elim}
 use mathlib.Core.Bool.{Bool, true, false}
@@ -10,26 +10,26 @@ use native.Mathlib.Omega.{arith}
 use borrow.Author.Tests.{eqb-true, eqb-false, eq-eqb, ne-eqb, ltb-false}
 use Rattle.field.proofs.Sums.{sum-zero, sum-one, sum-le, sum-some, sum-part}
 use Rattle.tables.specs.Kinds.{firstOf}
-use Rattle.tables.specs.Blocks.{Typed, Block, blockOf, perZone}
+use Rattle.tables.specs.Blocks.{DataType, Block, blockOf, perZone}
 use Rattle.tables.specs.Open.{isOpen, openZones}
 use Rattle.tables.specs.Room.{spareIn, spareOf, lackOf}
 use Rattle.tables.specs.Rules.R3.{Blocks}
 use Rattle.tables.specs.Views.{View, onlyIf}
-use Rattle.tables.proofs.BlockLaws.{block-of, block-in}
+use Rattle.tables.proofs.BlockLaws.{data-zone, data-block, block-in}
 use Rattle.tables.proofs.ChoiceLaws.{ceil-enough}
 use Rattle.tables.proofs.LackLaws.{some-blocks}
 use Rattle.tables.proofs.RoomLaws.{open-clear}
 use Rattle.allocation.specs.declared.choice.Found.{Found}
 use Rattle.allocation.specs.Choice.{begun, lowestBegun, lowestOpen, isClear, lowestClear, begunBlock, openBlock, nextBlock, blockStart}
 use Rattle.allocation.specs.Stock.{howMany, AllTyped, Stocked}
-use Rattle.allocation.specs.Candidates.{Proper, Behind}
+use Rattle.allocation.specs.Candidates.{Behind}
 use Rattle.allocation.specs.Steps.{Choosable, Taken}
-use Rattle.allocation.proofs.FindLaws.{find-low, find-none, find-passes, find-some}
+use Rattle.allocation.proofs.FindLaws.{find-low, find-high, find-none, find-passes, find-some}
 use Rattle.allocation.proofs.NextBlockLaws.{begun-is, next-begun, next-open}
 
--- ---- the two ways in which a block is next
+-- ---- the two ways in which a block may be chosen
 
--- it is of a zone of its type, the lowest with a free block, and the lowest free one there
+-- it is free, of a zone of its type that isn't open
 pub record OfBegun (v : View) (t : ℕ) (k : Found) : Type 0 where
   pub low : 2 ≤ k .zone .0
   pub high : k .zone .0 < v .zones
@@ -38,8 +38,6 @@ pub record OfBegun (v : View) (t : ℕ) (k : Found) : Type 0 where
   pub free : v .zone (k .zone .0) .free ≡ suc (k .free)
   pub within : k .number < perZone t
   pub first : v .bit (blockStart t k) ≡ 0
-  pub zones : (z : ℕ) → z < k .zone .0 → 2 ≤ z → begun v t z ≡ false
-  pub blocks : (j : ℕ) → j < k .number → isClear v t (k .zone .0) j ≡ false
 
 -- no zone of its type has a free block, and it is block 0 of an open one
 pub record OfOpen (v : View) (t : ℕ) (k : Found) : Type 0 where
@@ -49,6 +47,10 @@ pub record OfOpen (v : View) (t : ℕ) (k : Found) : Type 0 where
   pub none : (z : ℕ) → z < v .zones → 2 ≤ z → begun v t z ≡ false
   pub number : k .number ≡ 0
   pub free : suc (k .free) ≡ perZone t
+
+-- it fits in either way
+abbrev pub Fit : View → ℕ → Found → Type 0
+Fit v t k = OfBegun v t k ⊎ OfOpen v t k
 
 -- a clear zone's blocks, of whatever size, are free
 pub blocks-clear : (bit : ℕ → ℕ) (from size : ℕ) → Block size → ((n : ℕ) → n < 1024 → bit (from + n) ≡ 0) → Blocks bit from size (1024 / size)
@@ -71,7 +73,7 @@ unfolding howMany onlyIf
 howMany-other t u ts ne = rw (ne-eqb t u ne) (omega arith)
 
 -- what is free and the zones that are lacked are enough
-lack-more : (v : View) (t n : ℕ) → Typed t → n ≤ spareOf v t + perZone t * lackOf v t n
+lack-more : (v : View) (t n : ℕ) → DataType t → n ≤ spareOf v t + perZone t * lackOf v t n
 unfolding lackOf
 lack-more v t n typed = omega (arith, ceil-enough (n - spareOf v t) (perZone t) (some-blocks t typed))
 
@@ -103,14 +105,14 @@ module _ (v : View) (t : ℕ) where
   begun-low = find-low (begun v t) (v .zones - 2) 2
 
   module _ (ts : List ℕ) (s : Stocked v (t ∷ ts)) where
-    pub next-typed : Typed t
+    pub next-typed : DataType t
     unfolding AllTyped
     next-typed = s .typed .0
 
     -- ---- a zone that is begun
 
     begun-blocks : (z : ℕ) → 2 ≤ z → z < v .zones → v .zone z .ztype ≡ t → Blocks (v .bit) (firstOf z) (blockOf t) (v .zone z .free)
-    begun-blocks z lo hi e = rw e at (s .r3 z hi lo (rw e next-typed))
+    begun-blocks z lo hi e = rw e at (s .r3 z hi lo (rw e (data-zone next-typed)))
 
     -- its free blocks are there
     clear-some : (z : ℕ) → 2 ≤ z → z < v .zones → v .zone z .ztype ≡ t → 0 < v .zone z .free → lowestClear v t z < perZone t
@@ -135,8 +137,6 @@ module _ (v : View) (t : ℕ) where
           free = omega (arith, is .some);
           within = l;
           first = eqb-true _ 0 (find-passes (isClear v t z) (perZone t) 0 (omega arith));
-          zones = λ y ly loy. find-none (begun v t) (v .zones - 2) 2 y ly loy;
-          blocks = λ j lj. find-none (isClear v t z) (perZone t) 0 j lj (omega arith);
         }
 
     -- ---- an open zone
@@ -170,8 +170,8 @@ module _ (v : View) (t : ℕ) where
           free = omega (arith, some-blocks t next-typed);
         }
 
-    pub next-is : OfBegun v t (nextBlock v t) ⊎ OfOpen v t (nextBlock v t)
-    next-is =
+    pub next-fits : Fit v t (nextBlock v t)
+    next-fits =
         elim (decLt (lowestBegun v t) (v .zones)) [
           | yes h ↦ inl (rw (next-begun v t h) (begun-block h))
           | no h ↦ inr (rw (next-open v t (omega arith)) (open-block (omega arith)))
@@ -199,7 +199,7 @@ module _ (v : View) (t : ℕ) where
     open-choosable : (k : Found) → OfOpen v t k → Choosable v t k
     unfolding blockStart
     open-choosable k b =
-        let size = block-of t next-typed in
+        let size = data-block t next-typed in
         let l : k .number < perZone t = omega (arith, b .number, b .free) in
         let none = open-clear v (s .r2) (k .zone .0) (b .low) (b .high) (s .r3) (b .opened) in
         record {
@@ -210,30 +210,62 @@ module _ (v : View) (t : ℕ) where
           kept = inr none;
         }
 
-    pub next-choosable : Choosable v t (nextBlock v t)
-    next-choosable = ⊎-elim (begun-choosable _) (open-choosable _) next-is
+    pub fit-choosable : (k : Found) → Fit v t k → Choosable v t k
+    fit-choosable k = ⊎-elim (begun-choosable k) (open-choosable k)
 
--- ---- and once it is, it is where the next search may begin
+-- ---- where a search may begin
 
-below-behind : (v v' : View) (t : ℕ) (k : Found) → Taken v v' t k → Proper v t k
-    → ((z : ℕ) → z < k .zone .0 → 2 ≤ z → begun v t z ≡ false) → ((j : ℕ) → j < k .number → isClear v t (k .zone .0) j ≡ false) → Behind v' t k
+-- at the next block: none of its type is free before it
+module _ (v : View) (t : ℕ) (h : 2 ≤ v .zones) where
+  zones-before : (z : ℕ) → z < lowestBegun v t → 2 ≤ z → begun v t z ≡ false
+  unfolding lowestBegun
+  zones-before z l lo = find-none (begun v t) (v .zones - 2) 2 z l lo
+
+  open-most : lowestOpen v ≤ v .zones
+  unfolding lowestOpen
+  open-most = omega (arith, find-high (λ z. isOpen (v .zone z)) (v .zones - 2) 2)
+
+  begun-behind : lowestBegun v t < v .zones → Behind v t (begunBlock v t (lowestBegun v t))
+  unfolding begunBlock lowestClear
+  begun-behind l =
+      let z = lowestBegun v t in
+      record {
+        low = begun-low v t;
+        high = omega arith;
+        zones = zones-before;
+        blocks = λ j lj. find-none (isClear v t z) (perZone t) 0 j lj (omega arith);
+        number = omega (arith, find-high (isClear v t z) (perZone t) 0);
+      }
+
+  open-behind : v .zones ≤ lowestBegun v t → Behind v t (openBlock v t)
+  unfolding openBlock
+  open-behind l = record {
+    low = open-low v;
+    high = open-most;
+    zones = λ z lz lo. zones-before z (omega (arith, open-most)) lo;
+    blocks = λ j lj. absurd (omega arith);
+    number = omega arith;
+  }
+
+  pub next-behind : Behind v t (nextBlock v t)
+  next-behind = elim (decLt (lowestBegun v t) (v .zones)) [
+    | yes l ↦ rw (next-begun v t l) (begun-behind l)
+    | no l ↦ rw (next-open v t (omega arith)) (open-behind (omega arith))
+  ]
+
+-- it may begin there still when a block in a zone not below has been taken
+pub taken-behind : (v v' : View) (t : ℕ) (k from : Found) → Taken v v' t k → DataType t → from .zone .0 ≤ k .zone .0 → Behind v t from → Behind v' t from
 unfolding begun isClear
-below-behind v v' t k taken p zones blocks = record {
-  low = p .low;
-  high = rw (taken .zones) (let h = p .high in omega arith);
-  zones = λ z l lo. rw (taken .there z (omega arith) (omega (arith, p .high)) (λ e. omega arith)) (zones z l lo);
-  blocks = λ j l. (let i = block-in j (blockOf t) (block-of t (p .typed)) (omega (arith, p .within)) in
-      let set = eqb-false (v .bit (firstOf (k .zone .0) + j * blockOf t)) 0 (blocks j l) in
-      let e = taken .bit (firstOf (k .zone .0) + j * blockOf t) (omega (arith, p .high, p .low)) in
-      ne-eqb (v' .bit (firstOf (k .zone .0) + j * blockOf t)) 0 (λ q. set (omega arith)));
-  number = omega (arith, p .within);
+taken-behind v v' t k from taken typed before b = record {
+  low = b .low;
+  high = rw (taken .zones) (b .high);
+  zones = λ z l lo. rw (taken .there z (omega arith) (omega (arith, b .high)) (λ e. omega arith)) (b .zones z l lo);
+  blocks = λ j l. (let i = block-in j (blockOf t) (data-block t typed) (omega (arith, b .number)) in
+      let set = eqb-false (v .bit (firstOf (from .zone .0) + j * blockOf t)) 0 (b .blocks j l) in
+      let e = taken .bit (firstOf (from .zone .0) + j * blockOf t) (omega (arith, i, data-block t typed .some, b .high, b .low)) in
+      ne-eqb (v' .bit (firstOf (from .zone .0) + j * blockOf t)) 0 (λ q. set (omega arith)));
+  number = b .number;
 }
-
-pub taken-behind : (v v' : View) (t : ℕ) (ts : List ℕ) → Stocked v (t ∷ ts) → Taken v v' t (nextBlock v t) → Behind v' t (nextBlock v t)
-taken-behind v v' t ts s taken =
-    let p = next-choosable v t ts s .proper in
-    ⊎-elim (λ b. below-behind v v' t _ taken p (b .zones) (b .blocks))
-    (λ b. below-behind v v' t _ taken p (λ z l lo. b .none z (omega (arith, p .high)) lo) (λ j l. absurd (omega (arith, b .number)))) (next-is v t ts s)
 
 -- it may begin at the lowest of all zones
 pub behind-start : (v : View) (t : ℕ) → 2 ≤ v .zones → Behind v t (record { zone = record { 0 = 2 }; number = 0; free = 0 })

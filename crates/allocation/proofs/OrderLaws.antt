@@ -9,7 +9,7 @@ use native.Mathlib.Omega.{arith}
 use lib.ListN.{length, getD, replicate}
 use borrow.Author.Tests.{eq-eqb, ne-eqb}
 use Rattle.field.proofs.Sums.{sum-same}
-use Rattle.tables.specs.Blocks.{Typed, perZone}
+use Rattle.tables.specs.Blocks.{DataType, perZone}
 use Rattle.tables.specs.Room.{countAt, spareOf, lackOf, Enough}
 use Rattle.tables.specs.Rules.R1.{ceil}
 use Rattle.tables.specs.Views.{View, onlyIf}
@@ -36,7 +36,7 @@ typed-prefix [] ys a = tt
 typed-prefix (t ∷ xs) ys a = (a .0, typed-prefix xs ys (a .1))
 
 -- less is lacked for less
-lack-mono : (v : View) (t m n : ℕ) → Typed t → m ≤ n → lackOf v t m ≤ lackOf v t n
+lack-mono : (v : View) (t m n : ℕ) → DataType t → m ≤ n → lackOf v t m ≤ lackOf v t n
 unfolding lackOf
 lack-mono v t m n typed h =
     let some = some-blocks t typed in
@@ -53,7 +53,7 @@ stocked-prefix v xs ys s = record {
 
 -- ---- the types of blocks that are counted H to C
 
-pub many-typed : (n t : ℕ) → Typed t → AllTyped (replicate n t)
+pub many-typed : (n t : ℕ) → DataType t → AllTyped (replicate n t)
 unfolding AllTyped
 many-typed zero t typed = tt
 many-typed (suc n) t typed = (typed, many-typed n t typed)
@@ -88,7 +88,7 @@ order-at (n ∷ ns) t lo hi =
           rw i (omega (arith, many-other n (length ns + 3) t ne, order-at ns t lo (omega arith))))
     ]
 
-pub howMany-order : (ns : List ℕ) → length ns ≡ 6 → (t : ℕ) → Typed t → howMany (inOrder ns) t ≡ countAt ns t
+pub howMany-order : (ns : List ℕ) → length ns ≡ 6 → (t : ℕ) → DataType t → howMany (inOrder ns) t ≡ countAt ns t
 howMany-order ns six t typed = let e : length ns + 2 - t ≡ 8 - t = omega arith in order-at ns t (typed .low) (omega arith) ∙ ap (λ (i : ℕ). getD ns i 0) e
 
 typed-order : (ns : List ℕ) → length ns ≤ 6 → AllTyped (inOrder ns)

@@ -19,32 +19,33 @@ use Rattle.field.proofs.NumberLaws.{getD-part, u16-kept}
 use Rattle.field.proofs.PartLaws.{length-over, kept-over, over-part, same-at}
 use Rattle.tables.specs.declared.kinds.Sector.{Sector}
 use Rattle.tables.specs.declared.places.Places.{Places}
-use Rattle.tables.specs.Blocks.{Typed, blockOf}
+use Rattle.tables.specs.Blocks.{DataType, blockOf}
 use Rattle.tables.specs.Places.{Layout}
 use Rattle.tables.specs.Views.{viewOf}
 use Rattle.tables.specs.Same.{Ground}
 use Rattle.tables.specs.Zones.{zoneAt}
+use Rattle.allocation.specs.declared.choice.Choice.{Choice}
 use Rattle.allocation.specs.declared.choice.Found.{Found}
 use Rattle.allocation.specs.declared.tail.Tail.{Tail}
 use Rattle.allocation.specs.declared.tail.Pushed.{Pushed}
 use Rattle.allocation.specs.declared.tail.Pushed.the-variants.{Joined, Beside, Further}
 use Rattle.allocation.specs.declared.growth.Cursor.{Cursor}
-use Rattle.allocation.specs.Choice.{nextBlock, blockStart, putBlock, inTurn}
+use Rattle.allocation.specs.Choice.{choose, blockStart, putBlock, inTurn}
 use Rattle.allocation.specs.NextPointer.{joins, longer, beside, further, push, tailOf, placeOf}
 use Rattle.allocation.specs.Growth.{Growth}
 use Rattle.allocation.specs.Plans.{planned, planBlock, planFrom, tablesFor}
 use Rattle.allocation.specs.Stock.{Stocked, Plannable}
-use Rattle.allocation.specs.Candidates.{Proper, Behind}
+use Rattle.allocation.specs.Candidates.{Proper, Behind, Chooses}
 use Rattle.allocation.specs.Ready.{InTable, Planning}
 use Rattle.allocation.specs.Scratch.{scratchPlaces, scratchOf}
 use Rattle.allocation.specs.Steps.{Choosable, Taken}
 use Rattle.allocation.proofs.TurnLaws.{turn-none, turn-step, inTurn-append}
-use Rattle.allocation.proofs.NextLaws.{next-choosable, taken-behind}
-use Rattle.allocation.proofs.StockLaws.{taken-stocked}
-use Rattle.allocation.proofs.NextGround.{next-ground, stocked-ground, taken-ground}
+use Rattle.allocation.proofs.NextLaws.{taken-behind}
+use Rattle.allocation.proofs.ChooseLaws.{choose-choosable, choose-stocked, choose-ground}
+use Rattle.allocation.proofs.NextGround.{stocked-ground, taken-ground}
 use Rattle.allocation.proofs.OrderLaws.{stocked-prefix}
 use Rattle.allocation.proofs.TakenLaws.{length-putBlock, block-taken}
-use Rattle.tables.proofs.BlockLaws.{block-few}
+use Rattle.tables.proofs.BlockLaws.{data-zone, block-few}
 
 -- ---- a block after the tail
 
@@ -94,7 +95,7 @@ module _ (l : Tail) (s n : ℕ) where
 
 -- ---- a step of the plan
 
-pub plan-is : (p : Places) (t : ℕ) (g : Growth) → planBlock p t g ≡ planned p t (nextBlock (viewOf p (g .books)) t) g
+pub plan-is : (p : Places) (t : ℕ) (g : Growth) → planBlock p t g ≡ planned p t (choose (viewOf p (g .books)) (g .cursor .tail) t) g
 unfolding planBlock
 plan-is p t g = refl
 
@@ -103,38 +104,38 @@ pub planned-is : (p : Places) (t : ℕ) (k : Found) (g : Growth)
 unfolding planned
 planned-is p t k g = refl
 
--- the next block is free; taken, it leaves what the blocks after it ask
-module _ (p : Places) (b : List ℕ) (t : ℕ) (ts : List ℕ) (layout : Layout p (length b)) (stocked : Stocked (viewOf p b) (t ∷ ts)) where
-  pub stock-free : Choosable (viewOf p b) t (nextBlock (viewOf p b) t)
-  stock-free = next-choosable (viewOf p b) t ts stocked
+-- the chosen block is free; taken, it leaves what the blocks after it ask
+module _ (p : Places) (b : List ℕ) (l : Tail) (t : ℕ) (ts : List ℕ) (layout : Layout p (length b)) (stocked : Stocked (viewOf p b) (t ∷ ts)) where
+  pub stock-free : Choosable (viewOf p b) t (choose (viewOf p b) l t)
+  stock-free = choose-choosable (viewOf p b) l t ts stocked
 
-  pub stock-taken : Taken (viewOf p b) (viewOf p (putBlock p b t (nextBlock (viewOf p b) t))) t (nextBlock (viewOf p b) t)
-  stock-taken = block-taken p b t (nextBlock (viewOf p b) t) layout stock-free
+  pub stock-taken : Taken (viewOf p b) (viewOf p (putBlock p b t (choose (viewOf p b) l t))) t (choose (viewOf p b) l t)
+  stock-taken = block-taken p b t (choose (viewOf p b) l t) layout stock-free
 
-  pub stock-left : Stocked (viewOf p (putBlock p b t (nextBlock (viewOf p b) t))) ts
-  stock-left = taken-stocked (viewOf p b) _ t ts stocked stock-taken
+  pub stock-left : Stocked (viewOf p (putBlock p b t (choose (viewOf p b) l t))) ts
+  stock-left = choose-stocked (viewOf p b) _ l t ts stocked stock-taken
 
-  pub stock-behind : Behind (viewOf p (putBlock p b t (nextBlock (viewOf p b) t))) t (nextBlock (viewOf p b) t)
-  stock-behind = taken-behind (viewOf p b) _ t ts stocked stock-taken
+  pub stock-behind : (r : Choice) → Chooses (viewOf p b) l t r → Behind (viewOf p (putBlock p b t (choose (viewOf p b) l t))) t (r .from)
+  stock-behind r q = taken-behind (viewOf p b) _ t _ (r .from) stock-taken (stock-free .proper .typed) (rw (q .block) at (q .before)) (q .behind)
 
 module _ (p : Places) (g : Growth) (t : ℕ) (ts : List ℕ) (h : Plannable p (g .books) (g .cursor .tail) (t ∷ ts)) where
-  pub plan-proper : Proper (viewOf p (g .books)) t (nextBlock (viewOf p (g .books)) t)
-  plan-proper = stock-free p (g .books) t ts (h .layout) (h .stocked) .proper
+  pub plan-proper : Proper (viewOf p (g .books)) t (choose (viewOf p (g .books)) (g .cursor .tail) t)
+  plan-proper = stock-free p (g .books) (g .cursor .tail) t ts (h .layout) (h .stocked) .proper
 
-  pub plan-planning : Planning p t (nextBlock (viewOf p (g .books)) t) g
+  pub plan-planning : Planning p t (choose (viewOf p (g .books)) (g .cursor .tail) t) g
   plan-planning = record { layout = h .layout; proper = plan-proper; count = h .count; few = omega (arith, h .few) }
 
-  pub plan-behind : Behind (viewOf p (planBlock p t g .books)) t (nextBlock (viewOf p (g .books)) t)
-  plan-behind = rw (plan-is p t g, planned-is p t (nextBlock (viewOf p (g .books)) t) g) (stock-behind p (g .books) t ts (h .layout) (h .stocked))
+  pub plan-behind : (r : Choice) → Chooses (viewOf p (g .books)) (g .cursor .tail) t r → Behind (viewOf p (planBlock p t g .books)) t (r .from)
+  plan-behind r q = rw (plan-is p t g, planned-is p t (choose (viewOf p (g .books)) (g .cursor .tail) t) g) (stock-behind p (g .books) (g .cursor .tail) t ts (h .layout) (h .stocked) r q)
 
   pub plan-step : Plannable p (planBlock p t g .books) (planBlock p t g .cursor .tail) ts
   plan-step =
-      let k = nextBlock (viewOf p (g .books)) t in
+      let k = choose (viewOf p (g .books)) (g .cursor .tail) t in
       let l = g .cursor .tail in
       rw (plan-is p t g, planned-is p t k g) (record {
         layout = rw (length-putBlock p (g .books) t k) (h .layout);
-        stocked = stock-left p (g .books) t ts (h .layout) (h .stocked);
-        count = push-count l (blockStart t k) (blockOf t) (h .count) (block-few t (plan-proper .typed));
+        stocked = stock-left p (g .books) (g .cursor .tail) t ts (h .layout) (h .stocked);
+        count = push-count l (blockStart t k) (blockOf t) (h .count) (block-few t (data-zone (plan-proper .typed)));
         few = omega (arith, h .few, push-most l (blockStart t k) (blockOf t));
       })
 
@@ -152,7 +153,7 @@ plan-prefix p b l xs ys h = record {
 tables-rise : (p : Places) (g : Growth) (ts : List ℕ) → g .cursor .tail .tables ≤ inTurn (planBlock p) ts g .cursor .tail .tables
 tables-rise p g [] = rw (turn-none (planBlock p) g) (le-refl (g .cursor .tail .tables))
 tables-rise p g (t ∷ ts) =
-    let k = nextBlock (viewOf p (g .books)) t in
+    let k = choose (viewOf p (g .books)) (g .cursor .tail) t in
     let l = tailOf (push (g .cursor .tail) (blockStart t k) (blockOf t)) in
     let d : Growth = record { books = putBlock p (g .books) t k; cursor = record { tail = l; table = g .cursor .table } } in
     rw (turn-step (planBlock p) t ts g, plan-is p t g, planned-is p t k g) (omega (arith, tables-rise p d ts, push-least (g .cursor .tail) (blockStart t k) (blockOf t)))
@@ -174,7 +175,7 @@ tables-prefix p b l xs ys =
 
 -- those for the first block are counted first
 pub tables-step : (p : Places) (b : List ℕ) (l : Tail) (t : ℕ) (ts : List ℕ)
-    → let k = nextBlock (viewOf p b) t in tablesFor p b l (t ∷ ts) ≡ tablesFor p (putBlock p b t k) (tailOf (push l (blockStart t k) (blockOf t))) ts
+    → let k = choose (viewOf p b) l t in tablesFor p b l (t ∷ ts) ≡ tablesFor p (putBlock p b t k) (tailOf (push l (blockStart t k) (blockOf t))) ts
 unfolding tablesFor
 tables-step p b l t ts = refl
 
@@ -184,11 +185,11 @@ pub tables-same : (p q : Places) (b s : List ℕ) (l : Tail) (ts : List ℕ) →
     → inTurn (planBlock p) ts (planFrom b l) .cursor .tail ≡ inTurn (planBlock q) ts (planFrom s l) .cursor .tail
 tables-same p q b s l [] lp lq g st = rw (turn-none (planBlock p) (planFrom b l), turn-none (planBlock q) (planFrom s l))
 tables-same p q b s l (t ∷ ts) lp lq g st =
-    let k = nextBlock (viewOf p b) t in
-    let e : nextBlock (viewOf q s) t ≡ k = next-ground (viewOf p b) (viewOf q s) g t in
+    let k = choose (viewOf p b) l t in
+    let e : choose (viewOf q s) l t ≡ k = choose-ground (viewOf p b) (viewOf q s) g l t in
     let st' = stocked-ground (viewOf p b) (viewOf q s) g (t ∷ ts) st in
-    let tq : Taken (viewOf q s) (viewOf q (putBlock q s t k)) t k = rw e at (stock-taken q s t ts lq st') in
-    let g' = taken-ground (viewOf p b) _ (viewOf q s) _ t k g (stock-taken p b t ts lp st) tq in
+    let tq : Taken (viewOf q s) (viewOf q (putBlock q s t k)) t k = rw e at (stock-taken q s l t ts lq st') in
+    let g' = taken-ground (viewOf p b) _ (viewOf q s) _ t k g (stock-taken p b l t ts lp st) tq in
     rw (
       turn-step (planBlock p) t ts (planFrom b l),
       turn-step (planBlock q) t ts (planFrom s l),
@@ -199,7 +200,7 @@ tables-same p q b s l (t ∷ ts) lp lq g st =
       planned-is q t k (planFrom s l),
     )
     (tables-same p q (putBlock p b t k) (putBlock q s t k) (tailOf (push l (blockStart t k) (blockOf t))) ts
-    (rw (length-putBlock p b t k) lp) (rw (length-putBlock q s t k) lq) g' (stock-left p b t ts lp st))
+    (rw (length-putBlock p b t k) lp) (rw (length-putBlock q s t k) lq) g' (stock-left p b l t ts lp st))
 
 pub tables-ground : (p q : Places) (b s : List ℕ) (l : Tail) (ts : List ℕ) → Layout p (length b) → Layout q (length s) → Ground (viewOf p b) (viewOf q s) → Stocked (viewOf p b) ts
     → tablesFor p b l ts ≡ tablesFor q s l ts
@@ -288,8 +289,8 @@ module _ (p : Places) (s b : List ℕ) (layout : Layout p (length b)) (long : le
 
 -- ---- the ways out of the functions that plan
 
-pub sectors-few : (t n : ℕ) → Typed t → n ≡ blockOf t → n ≤ 1024
-sectors-few t n h e = rw e (block-few t h)
+pub sectors-few : (t n : ℕ) → DataType t → n ≡ blockOf t → n ≤ 1024
+sectors-few t n h e = rw e (block-few t (data-zone h))
 
 pub planned-one : (p : Places) (t : ℕ) (k : Found) (b x : List ℕ) (c : Cursor) (q : Pushed) (r : Tail) (a : Sector) (n : ℕ) → x ≡ putBlock p b t k → a .0 ≡ blockStart t k → n ≡ blockOf t → q ≡ push (c .tail) (a .0) n → r ≡ tailOf q
     → _≡_ {A = Growth} (record { books = x; cursor = record { tail = r; table = c .table } }) (planned p t k (record { books = b; cursor = c }))

@@ -15,18 +15,19 @@ use Rattle.tables.specs.Same.{Ground}
 use Rattle.tables.specs.Sector1.{freeOf, firstFreeOf}
 use Rattle.tables.specs.Views.{viewOf, Free}
 use Rattle.tables.specs.Rules.R9.{freeOne}
+use Rattle.allocation.specs.declared.choice.Choice.{Choice}
 use Rattle.allocation.specs.declared.choice.Found.{Found}
 use Rattle.allocation.specs.declared.tail.Tail.{Tail}
 use Rattle.allocation.specs.declared.tail.Pushed.{Pushed}
 use Rattle.allocation.specs.declared.tail.Pushed.the-variants.{Joined, Beside, Further}
 use Rattle.allocation.specs.declared.growth.Cursor.{Cursor}
-use Rattle.allocation.specs.Choice.{nextBlock, blockStart, putBlock}
+use Rattle.allocation.specs.Choice.{choose, blockStart, putBlock}
 use Rattle.allocation.specs.NextPointer.{push, tailOf, placeOf}
 use Rattle.allocation.specs.NewTables.{putChild}
 use Rattle.allocation.specs.Growth.{Growth, pointHere, pointFurther, pointed, laid, addBlock}
 use Rattle.allocation.specs.Plans.{tablesFor}
 use Rattle.allocation.specs.Stock.{Stocked}
-use Rattle.allocation.specs.Candidates.{Proper, Behind}
+use Rattle.allocation.specs.Candidates.{Proper, Behind, Chooses}
 use Rattle.allocation.specs.Steps.{Written, Extended}
 use Rattle.allocation.specs.Ready.{Head, HeadFor, InTable, Laying, Chained, Ready}
 use Rattle.allocation.proofs.PlanLaws.{Goes, push-in-table, push-most, push-goes, stock-free, stock-left, stock-behind, tables-least, tables-prefix, tables-step, tables-ground}
@@ -36,11 +37,11 @@ use Rattle.allocation.proofs.NextGround.{stocked-ground, behind-ground}
 use Rattle.allocation.proofs.OrderLaws.{stocked-prefix}
 use Rattle.allocation.proofs.TakenLaws.{length-putBlock, block-files}
 use Rattle.allocation.proofs.StepLaws.{pointer-written, child-extended, length-putPointer, length-putChild}
-use Rattle.tables.proofs.BlockLaws.{block-few}
+use Rattle.tables.proofs.BlockLaws.{data-zone, block-few}
 
 -- ---- what the steps are
 
-pub add-is : (p : Places) (f t : ℕ) (g : Growth) → addBlock p f t g ≡ laid p f t (nextBlock (viewOf p (g .books)) t) g
+pub add-is : (p : Places) (f t : ℕ) (g : Growth) → addBlock p f t g ≡ laid p f t (choose (viewOf p (g .books)) (g .cursor .tail) t) g
 unfolding addBlock
 add-is p f t g = refl
 
@@ -168,25 +169,25 @@ module _ (p : Places) (f : ℕ) (b : List ℕ) (c : Cursor) (ts : List ℕ) wher
 
 module _ (p : Places) (f : ℕ) (g : Growth) (t : ℕ) (ts : List ℕ) (h : Ready p f g (t ∷ ts)) where
   abbrev k : Found
-  k = nextBlock (viewOf p (g .books)) t
+  k = choose (viewOf p (g .books)) (g .cursor .tail) t
 
   abbrev pushed : Pushed
   pushed = push (g .cursor .tail) (blockStart t k) (blockOf t)
 
   pub ready-proper : Proper (viewOf p (g .books)) t k
-  ready-proper = stock-free p (g .books) t ts (h .layout) (h .stocked) .proper
+  ready-proper = stock-free p (g .books) (g .cursor .tail) t ts (h .layout) (h .stocked) .proper
 
   pub step-taking : Taking p f (putBlock p (g .books) t k) (g .cursor) (push (g .cursor .tail) (blockStart t k) (blockOf t)) ts
   step-taking =
       let s = block-files p (g .books) t k (h .layout) ready-proper in
       record {
         layout = rw (length-putBlock p (g .books) t k) (h .layout);
-        stocked = stock-left p (g .books) t ts (h .layout) (h .stocked);
+        stocked = stock-left p (g .books) (g .cursor .tail) t ts (h .layout) (h .stocked);
         chained = record { r4 = files-R4 s (h .chained .r4); free = s .free ∙ h .chained .free ∙ sym (files-tally s freeOne) };
         low = h .low;
         high = h .high;
         used = λ z. h .used (sym (ap wordOf (s .table (g .cursor .table .0) (h .low) (h .high))) ∙ z);
-        tail = push-in-table (g .cursor .tail) (blockStart t k) (blockOf t) (h .tail) (block-few t (ready-proper .typed));
+        tail = push-in-table (g .cursor .tail) (blockStart t k) (blockOf t) (h .tail) (block-few t (data-zone (ready-proper .typed)));
         few = omega (arith, h .few, push-most (g .cursor .tail) (blockStart t k) (blockOf t));
         enough = omega (arith, tables-step p (g .books) (g .cursor .tail) t ts, h .enough, s .free);
         file = h .file;
@@ -196,11 +197,12 @@ module _ (p : Places) (f : ℕ) (g : Growth) (t : ℕ) (ts : List ℕ) (h : Read
   pub ready-step : Ready p f (addBlock p f t g) ts
   ready-step = rw (add-is p f t g, laid-is p f t k g) (taking-ready p f (putBlock p (g .books) t k) (g .cursor) ts pushed step-taking)
 
-  pub ready-behind : Behind (viewOf p (addBlock p f t g .books)) t k
-  ready-behind =
+  pub ready-behind : (r : Choice) → Chooses (viewOf p (g .books)) (g .cursor .tail) t r → Behind (viewOf p (addBlock p f t g .books)) t (r .from)
+  ready-behind r q =
       let b = putBlock p (g .books) t k in
       rw (add-is p f t g, laid-is p f t k g)
-      (behind-ground (viewOf p b) _ (taking-ground p f b (g .cursor) ts pushed step-taking) t k (stock-behind p (g .books) t ts (h .layout) (h .stocked)))
+      (behind-ground (viewOf p b) _ (taking-ground p f b (g .cursor) ts pushed step-taking) t (r .from)
+      (stock-behind p (g .books) (g .cursor .tail) t ts (h .layout) (h .stocked) r q))
 
   pub ready-laying : Laying p t k g
   ready-laying = record {
@@ -280,7 +282,7 @@ module _ (p : Places) (t : ℕ) (k : Found) (b x : List ℕ) (c : Cursor) (h : L
     lay-pushed = er ∙ rw (ea, en) refl
 
     pub lay-in-table : InTable (tailOf r)
-    lay-in-table = rw lay-pushed (push-in-table (c .tail) (blockStart t k) (blockOf t) (h .tail) (block-few t (h .proper .typed)))
+    lay-in-table = rw lay-pushed (push-in-table (c .tail) (blockStart t k) (blockOf t) (h .tail) (block-few t (data-zone (h .proper .typed))))
 
     pub lay-head : HeadFor p x r
     lay-head = rw (lay-pushed, e) (head-taken p b t k (h .layout) (h .proper) (push (c .tail) (blockStart t k) (blockOf t)) (h .head))

@@ -3,7 +3,7 @@
 use mathlib.Core.Path.{_≡_, refl, sym, ap, ap₂, _∙_}
 use mathlib.Core.Logic.{_≢_, inl, inr}
 use mathlib.Core.List.{List}
-use Prim.Native.Nat.{ℕ, suc, _+_, _-_, _*_, _≤_, _<_}
+use Prim.Native.Nat.{ℕ, suc, _-_, _*_, _≤_, _<_}
 use native.Mathlib.Decide.{ℕ-discrete}
 use native.Mathlib.Omega.{arith}
 use Rattle.field.specs.Kept.{Kept}
@@ -13,14 +13,15 @@ use Rattle.field.proofs.Sums.{sum-same}
 use Rattle.tables.specs.Kinds.{zoneOf}
 use Rattle.tables.specs.Same.{Ground}
 use Rattle.tables.specs.Indexes.{wordOf, parentOf, minus, slotsOf, baseOf, startOf, countOf, Used, sectorsOf, fileOf}
-use Rattle.tables.specs.Views.{View, Parent, Child, walk, next, cov, overOf, Under}
+use Rattle.tables.specs.Views.{View, Parent, Child, walk, next, cov, claimsOf, overOf, Under}
 use Rattle.tables.specs.Rules.R5.{Stands}
 use Rattle.tables.specs.Rules.R8.{fileSectors, InType}
 use Rattle.tables.specs.Rules.R9.{R9}
 use Rattle.tables.proofs.Sector1CountLaws.{only-eq}
 use Rattle.tables.proofs.SameLaws.{ground-R2, ground-R3}
+use Rattle.tables.proofs.FrameLaws.{header-kept}
 use Rattle.tables.proofs.IndexLaws.{base-parent}
-use Rattle.allocation.specs.Held.{ShapeBut, Held, nothing}
+use Rattle.allocation.specs.Held.{ShapeBut, Held}
 use Rattle.allocation.proofs.PointerBytes.{word-kept, parent-kept, slots-kept, file-kept, start-kept, count-kept}
 use Rattle.allocation.proofs.ChangeLaws.{Changed, Stays, stays-same, member-begins, parent-file, ground-run, walk-stays, chain-stays, parent-there, begins-was, stay-R4, changed-R5, changed-R6, pointers-at, sectors-at, under-zone, changed-types, changed-R8}
 
@@ -54,8 +55,8 @@ module _ (v v' : View) (f : ℕ) (w : Restated v v' f) (few : v .indexes ≤ 409
   pub restated-count : (j : ℕ) → countOf f t' j ≡ countOf f t j
   restated-count j = count-kept f (w .here) (omega arith) j (inr (omega (arith, base)))
 
-  same-over : (s : ℕ) → overOf f t' s ≡ overOf f t s
-  unfolding overOf
+  same-over : (s : ℕ) → claimsOf f t' s ≡ claimsOf f t s
+  unfolding claimsOf overOf
   same-over s = rw same-slots (sum-same (slotsOf f t) _ _ (λ j l. ap₂ (λ (a c : ℕ). cov a c s) (restated-start j) (restated-count j)))
 
   same-own : sectorsOf f t' ≡ sectorsOf f t
@@ -91,7 +92,7 @@ module _ (v v' : View) (f : ℕ) (w : Restated v v' f) (few : v .indexes ≤ 409
     full = λ full j l. (let l' : j < slotsOf f t = rw same-slots at l in rw (restated-start j, restated-count j) (full j l'));
   }
 
-  module _ (h : Held v f nothing) where
+  module _ {extra : ℕ → ℕ} (h : Held v f extra) where
     stays : (k : ℕ) → k < suc (h .r5 .long f) → Stays v v' (walk (next v) f k)
     stays k l =
         let b = member-begins v few f (h .r5 .long f) parent (h .r5 .chain f parent) k l .1 in
@@ -118,10 +119,10 @@ module _ (v v' : View) (f : ℕ) (w : Restated v v' f) (few : v .indexes ≤ 409
           used = λ j l u. (let l' : j < slotsOf f t = rw same-slots at l in
               rw (restated-start j, restated-count j) (ground-run v v' (w .ground) _ _ (s .used j l' (rw (restated-start j, restated-count j) at u))));
           one = λ e ne. absurd (ne refl);
-          header = λ e k l. w .here .out (58 + k) (inr (omega arith)) ∙ s .header (parent .word) k l;
+          header = λ e. header-kept (w .here) (inr (omega arith)) (s .header (parent .word));
         }
 
-    pub restated-held : R9 v' → Held v' f nothing
+    pub restated-held : R9 v' → Held v' f extra
     restated-held r9 = record {
       r2 = ground-R2 v v' (w .ground) (h .r2);
       r3 = ground-R3 v v' (w .ground) (h .r3);
@@ -129,8 +130,10 @@ module _ (v v' : View) (f : ℕ) (w : Restated v v' f) (few : v .indexes ≤ 409
       r5 = changed-R5 v v' f f restated-change (h .r5) (h .r5 .long f) (chain-stays v v' (w .indexes) f (h .r5 .long f) (h .r5 .chain f parent) stays) own-stands
           (λ b. absurd (omega (arith, b .word, restated-parent v v' f w parent .word, b .high, w .indexes)));
       r6 = changed-R6 v v' f f restated-change own-shape (h .r6);
-      r7 = λ s l lo. (let l' : s < 1024 * (v .zones - 1) = rw (w .ground .zones) at l in
-          omega (arith, pointers-at v v' f f restated-change s, same-over s, h .r7 s l' lo, w .ground .bit s (omega arith)));
+      r7 = record {
+        count = λ s l lo. (let l' : s < 1024 * (v .zones - 1) = rw (w .ground .zones) at l in
+            omega (arith, pointers-at v v' f f restated-change s, same-over s, h .r7 .count s l' lo, w .ground .bit s (omega arith)));
+      };
       r8 = changed-R8 v v' f f restated-change (h .r6) (h .r8);
       r9 = r9;
     }

@@ -7,14 +7,14 @@ use Rattle.field.specs.Sum.{sumTo}
 use Rattle.field.proofs.Sums.{sum-more}
 use Rattle.tables.specs.declared.places.Places.{Places}
 use Rattle.tables.specs.declared.kinds.Index.{Index}
-use Rattle.tables.specs.Blocks.{Typed, Block, blockOf}
+use Rattle.tables.specs.Blocks.{ZoneType, DataType, Block, blockOf}
 use Rattle.tables.specs.Counts.{blockBytes}
 use Rattle.tables.specs.Indexes.{tableAt, startOf, countOf, fileOf, sectorsOf}
 use Rattle.tables.specs.Views.{View, viewOf, Parent, tally}
 use Rattle.tables.specs.Rules.R1.{ceil}
 use Rattle.tables.specs.Rules.R6.{Run, R6}
 use Rattle.tables.specs.Rules.R8.{fileSectors, fileType}
-use Rattle.tables.proofs.BlockLaws.{block-of}
+use Rattle.tables.proofs.BlockLaws.{data-zone, data-block}
 use Rattle.tables.proofs.ChoiceLaws.{ceil-least}
 use Rattle.tables.proofs.Sector1CountLaws.{only-eq, only-ne}
 use Rattle.tables.proofs.CountsLaws.{bytes-at}
@@ -60,25 +60,29 @@ module _ (p : Places) (b : List ℕ) (f : ℕ) where
 -- ---- what it lacks
 
 -- what is under a run lies in zones of type 3-8
-pub run-typed : (v : View) (f : ℕ) → Run v (startOf f (v .table f) 0) (countOf f (v .table f) 0) → Typed (fileType v f)
+pub run-typed : (v : View) (f : ℕ) → Run v (startOf f (v .table f) 0) (countOf f (v .table f) 0) → DataType (fileType v f)
 unfolding fileType
 run-typed v f run = run .typed (startOf f (v .table f) 0) (omega (arith, run .some)) (omega arith)
 
 -- R6: a parent has a pointer
-pub file-typed : (v : View) (f : ℕ) → R6 v → Parent v f → Typed (fileType v f)
+pub file-typed : (v : View) (f : ℕ) → R6 v → Parent v f → DataType (fileType v f)
 file-typed v f r parent =
     let shape = r f (omega (arith, parent .high)) (parent .low) in
     run-typed v f (shape .used 0 (omega (arith, parent-slots v f parent)) (shape .one (parent .word)))
 
-pub type-typed : (v : View) (f t : ℕ) → R6 v → Parent v f → t ≡ fileType v f → Typed t
+pub type-typed : (v : View) (f t : ℕ) → R6 v → Parent v f → t ≡ fileType v f → DataType t
 type-typed v f t r parent e = rw e (file-typed v f r parent)
+
+-- so that it has a block size
+pub type-blocks : (v : View) (f t : ℕ) → R6 v → Parent v f → t ≡ fileType v f → ZoneType t
+type-blocks v f t r parent e = data-zone (type-typed v f t r parent e)
 
 module _ (v : View) (f long n : ℕ) (r : R6 v) (parent : Parent v f) (is : (n ≡ fileSectors v f) × (n < 17592186044416)) where
   pub lacks-none : long ≤ 1024 * n → 0 ≡ blocksFor v f long
   unfolding blocksFor
   lacks-none l =
       let t : ℕ = fileType v f in
-      let bytes = bytes-at t (blockOf t) (file-typed v f r parent) (refl, block-of t (file-typed v f r parent)) in
+      let bytes = bytes-at t (blockOf t) (file-typed v f r parent) (refl, data-block t (file-typed v f r parent)) in
       let z : long - 1024 * fileSectors v f ≡ 0 = omega (arith, is .0) in
       let none : ceil 0 (blockBytes t) ≤ 0 = ceil-least 0 (blockBytes t) 0 (omega (arith, bytes .0, bytes .1)) (omega arith) in
       rw z (omega (arith, none))

@@ -1,4 +1,4 @@
--- A block taken keeps R2 and R3, and the next block taken leaves room for the others.
+-- A block taken keeps R2 and R3, and one that fits leaves room for the others.
 use mathlib.Core.Path.{_≡_, refl, sym, ap, ap₂, _∙_}
 use mathlib.Core.Logic.{_≢_, inl, inr, ⊎-elim}
 use mathlib.Core.Bool.{false}
@@ -12,25 +12,25 @@ use Rattle.field.specs.Sum.{sumTo}
 use Rattle.field.proofs.Sums.{sum-at}
 use Rattle.tables.specs.declared.zone.ZoneEntry.{ZoneEntry}
 use Rattle.tables.specs.Kinds.{firstOf}
-use Rattle.tables.specs.Blocks.{Typed, Block, blockOf, perZone}
+use Rattle.tables.specs.Blocks.{DataType, Block, blockOf, perZone}
 use Rattle.tables.specs.Open.{isOpen, openZones}
 use Rattle.tables.specs.Room.{spareIn, spareOf, lackOf, Enough}
 use Rattle.tables.specs.Rules.R1.{ceil}
 use Rattle.tables.specs.Rules.R2.{R2}
 use Rattle.tables.specs.Rules.R3.{R3, Blocks}
 use Rattle.tables.specs.Views.{View, cov, onlyIf}
-use Rattle.tables.proofs.BlockLaws.{block-of, block-in, block-end}
+use Rattle.tables.proofs.BlockLaws.{data-zone, block-of, data-block, block-in, block-end}
 use Rattle.tables.proofs.ChoiceLaws.{ceil-least, ceil-enough}
 use Rattle.tables.proofs.LackLaws.{some-blocks, in-open, in-other, in-begun}
 use Rattle.tables.proofs.OpenLaws.{open-typed}
 use Rattle.tables.proofs.PointerLaws.{cov-in, cov-before, cov-after}
 use Rattle.tables.proofs.SameLaws.{blocks-same}
 use Rattle.allocation.specs.declared.choice.Found.{Found}
-use Rattle.allocation.specs.Choice.{nextBlock, blockStart}
+use Rattle.allocation.specs.Choice.{blockStart}
 use Rattle.allocation.specs.Stock.{howMany, AllTyped, Stocked}
 use Rattle.allocation.specs.Candidates.{Proper}
 use Rattle.allocation.specs.Steps.{Choosable, Taken}
-use Rattle.allocation.proofs.NextLaws.{OfBegun, OfOpen, next-is, next-choosable, howMany-own, howMany-other, none-spare}
+use Rattle.allocation.proofs.NextLaws.{OfBegun, OfOpen, Fit, fit-choosable, howMany-own, howMany-other, none-spare}
 
 -- ---- a zone's blocks, where block k of them is taken
 
@@ -77,7 +77,7 @@ module _ (v v' : View) (t : ℕ) (k : Found) (c : Choosable v t k) (taken : Take
   unfolding blockStart
   bits-there z lo hi ne n l =
       let p = c .proper in
-      let i = block-in (k .number) (blockOf t) (block-of t (p .typed)) (p .within) in
+      let i = block-in (k .number) (blockOf t) (data-block t (p .typed)) (p .within) in
       let e = taken .bit (firstOf z + n) (omega arith) in
       let q : cov (blockStart t k) (blockOf t) (firstOf z + n) ≡ 0
       = elim (decLt z (k .zone .0)) [
@@ -94,7 +94,7 @@ module _ (v v' : View) (t : ℕ) (k : Found) (c : Choosable v t k) (taken : Take
         | yes e ↦ record {
           first = λ q. absurd (omega (arith, p .low));
           last = λ q. absurd (omega (arith, p .high, taken .zones));
-          other = λ a b. inr (record { typed = rw (e, taken .here) (p .typed); third = rw (e, taken .here) refl });
+          other = λ a b. inr (record { typed = rw (e, taken .here) (data-zone (p .typed)); third = rw (e, taken .here) refl });
         }
         | no ne ↦ (let e = taken .there z lo hi ne in
             let same = bits-there z lo hi ne in
@@ -113,8 +113,8 @@ module _ (v v' : View) (t : ℕ) (k : Found) (c : Choosable v t k) (taken : Take
       let p = c .proper in
       let l' : z < v .zones = rw (taken .zones) at l in
       elim (ℕ-discrete z (k .zone .0)) [
-        | yes e ↦ rw (e, taken .here) (λ _. block-taken (v .bit) (v' .bit) (firstOf (k .zone .0)) (blockOf t) (k .free) (k .number) (block-of t (p .typed)) (p .within)
-            (rw add-zero at (c .clear 0 (block-of t (p .typed) .some))) (λ s ls. taken .bit s (omega (arith, p .high, p .low))) (c .was))
+        | yes e ↦ rw (e, taken .here) (λ _. block-taken (v .bit) (v' .bit) (firstOf (k .zone .0)) (blockOf t) (k .free) (k .number) (data-block t (p .typed)) (p .within)
+            (rw add-zero at (c .clear 0 (data-block t (p .typed) .some))) (λ s ls. taken .bit s (omega (arith, p .high, p .low))) (c .was))
         | no ne ↦ rw (taken .there z (omega arith) (omega arith) ne) (λ typed.
             blocks-same (v .bit) (v' .bit) (firstOf z) (blockOf (v .zone z .ztype)) (block-of _ typed) (bits-there z (omega arith) (omega arith) ne) (v .zone z .free) (r z l' lo typed))
       ]
@@ -134,12 +134,12 @@ unfolding lackOf
 lack-is v t n f e = rw e
 
 -- the entry of a zone of type t with some block in use
-module _ (t f : ℕ) (typed : Typed t) (l : f < perZone t) where
+module _ (t f : ℕ) (typed : DataType t) (l : f < perZone t) where
   abbrev entry : ZoneEntry
   entry = record { ztype = t; free = f; third = 0 }
 
   entry-closed : isOpen entry ≡ false
-  entry-closed = sym (open-typed entry (perZone t) (typed .low) (typed .high) refl) ∙ ne-eqb f (perZone t) (λ e. omega arith)
+  entry-closed = sym (open-typed entry (perZone t) (data-zone typed) refl) ∙ ne-eqb f (perZone t) (λ e. omega arith)
 
   entry-own : spareIn t entry ≡ f
   entry-own = sym (in-begun t entry (isOpen entry) refl entry-closed refl)
@@ -205,13 +205,13 @@ module _ (v v' : View) (t : ℕ) (k : Found) (p : Proper v t k) (taken : Taken v
       = rw (lack-is v' t (howMany ts t) _ s, lack-is v t (howMany (t ∷ ts) t) _ none, n) (ceil-fall (howMany ts t) (perZone t) (some-blocks t (p .typed))) in
       omega (arith, h, rw (b .opened) at open-change, lack-change ts (λ u ne. zero' u))
 
-pub taken-stocked : (v v' : View) (t : ℕ) (ts : List ℕ) → Stocked v (t ∷ ts) → Taken v v' t (nextBlock v t) → Stocked v' ts
+pub fit-stocked : (v v' : View) (t : ℕ) (ts : List ℕ) (k : Found) → Stocked v (t ∷ ts) → Fit v t k → Taken v v' t k → Stocked v' ts
 unfolding AllTyped
-taken-stocked v v' t ts s taken =
-    let c = next-choosable v t ts s in
+fit-stocked v v' t ts k s fit taken =
+    let c = fit-choosable v t ts s k fit in
     record {
       r2 = taken-R2 v v' t _ c taken (s .r2);
       r3 = taken-R3 v v' t _ c taken (s .r3);
       typed = s .typed .1;
-      enough = ⊎-elim (λ b. begun-enough v v' t _ (c .proper) taken ts b (s .enough)) (λ b. open-enough v v' t _ (c .proper) taken ts b (s .enough)) (next-is v t ts s);
+      enough = ⊎-elim (λ b. begun-enough v v' t _ (c .proper) taken ts b (s .enough)) (λ b. open-enough v v' t _ (c .proper) taken ts b (s .enough)) fit;
     }

@@ -10,7 +10,7 @@ use Rattle.tables.specs.declared.zone.ZoneEntry.{ZoneEntry}
 use Rattle.tables.specs.Kinds.{zoneOf, firstOf}
 use Rattle.tables.specs.Blocks.{Block, blockOf, Whole}
 use Rattle.tables.specs.Indexes.{linkOf}
-use Rattle.tables.specs.Views.{View, Begins, Parent, walk, next, cov, tally, overOf, pointersOver, Under}
+use Rattle.tables.specs.Views.{View, Begins, Parent, walk, next, cov, tally, claimsOf, claimsOver, Under}
 use Rattle.tables.specs.Same.{Same}
 use Rattle.tables.specs.Rules.R2.{R2, ZoneBits}
 use Rattle.tables.specs.Rules.R3.{R3}
@@ -19,9 +19,9 @@ use Rattle.tables.specs.Rules.R5.{FileChain, R5}
 use Rattle.tables.specs.Rules.R6.{Run}
 use Rattle.tables.specs.Rules.R8.{fileSectors, InType, File}
 use Rattle.tables.specs.Rules.R9.{freeOne, activeOne, deletedOne, systemOne, directoryOne, R9}
-use Rattle.tables.proofs.BlockLaws.{block-of, block-end, block-in}
+use Rattle.tables.proofs.BlockLaws.{block-of, data-block, block-end, block-in}
 use Rattle.tables.proofs.ChainLaws.{walk-same}
-use Rattle.tables.proofs.PointerLaws.{cov-in, cov-before, cov-after, cov-cases, under-counts}
+use Rattle.tables.proofs.PointerLaws.{cov-in, cov-before, cov-after, cov-cases, under-claims}
 use Rattle.tables.proofs.SameLaws.{same-begins, same-R4, same-R5, same-chain, same-tally, under-same}
 use Rattle.allocation.specs.declared.choice.Found.{Found}
 use Rattle.allocation.specs.declared.growth.Cursor.{Cursor}
@@ -84,12 +84,12 @@ module _ {v v' : View} {t : ℕ} {k : Found} (can : Choosable v t k) (took : Tak
   -- the block lies in its zone
   inside : (blockStart t k ≡ firstOf (k .zone .0) + k .number * blockOf t) × (k .number * blockOf t + blockOf t ≤ 1024)
   unfolding blockStart
-  inside = (refl, block-in (k .number) (blockOf t) (block-of t (can .proper .typed)) (can .proper .within))
+  inside = (refl, block-in (k .number) (blockOf t) (data-block t (can .proper .typed)) (can .proper .within))
 
   pub new-run : Run v' (blockStart t k) (blockOf t)
   new-run =
       let p = can .proper in
-      let b = block-of t (p .typed) in
+      let b = data-block t (p .typed) in
       record {
         some = omega (arith, b .some);
         few = omega (arith, inside);
@@ -164,9 +164,9 @@ module _ {v v' : View} (files : SameFiles v v') where
   unfolding tally
   files-tally = same-tally (grounded v v') v' same
 
-  files-over : (s : ℕ) → pointersOver v' s ≡ pointersOver v s
-  unfolding pointersOver
-  files-over s = files-tally (λ i t. overOf i t s)
+  files-over : (s : ℕ) → claimsOver v' s ≡ claimsOver v s
+  unfolding claimsOver
+  files-over s = files-tally (λ i t. claimsOf i t s)
 
   pub files-sectors : (q : ℕ) → fileSectors v' q ≡ fileSectors v q
   unfolding fileSectors
@@ -214,7 +214,7 @@ module _ {v : View} {f : ℕ} {d : ℕ → ℕ} (held : Held v f d) where
   pub held-set : ((s : ℕ) → v .bit s < 2) → (i j s : ℕ) → Under v i j s → v .bit s ≡ 1
   held-set bits i j s u =
       let r = under-run v f (held .r6) i j s u in
-      omega (arith, held .r7 s (omega (arith, r .high, u .to)) (omega (arith, r .low, u .from)), bits s, under-counts v s i j u)
+      omega (arith, held .r7 .count s (omega (arith, r .high, u .to)) (omega (arith, r .low, u .from)), bits s, under-claims v s i j u)
 
 module _ {v v' : View} {t : ℕ} {k : Found} (can : Choosable v t k) (took : Taken v v' t k) (files : SameFiles v v') (bits : (s : ℕ) → v .bit s < 2)
     {f : ℕ} {d : ℕ → ℕ} (held : Held v f d) where
@@ -248,7 +248,7 @@ module _ {v v' : View} {t : ℕ} {k : Found} (can : Choosable v t k) (took : Tak
     r5 = files-R5 files (held .r5);
     r6 = λ i l lo. (let hi : i ≤ v .indexes = omega (arith, files .indexes) in
         rw (files .table i lo hi) (taken-shape i lo hi (held .r6 i (omega arith) lo)));
-    r7 = λ s l lo. (let l' : s < 1024 * (v .zones - 1) = rw (took .zones) at l in omega (arith, files-over files s, held .r7 s l' lo, took .bit s (omega arith)));
+    r7 = record { count = λ s l lo. (let l' : s < 1024 * (v .zones - 1) = rw (took .zones) at l in omega (arith, files-over files s, held .r7 .count s l' lo, took .bit s (omega arith))) };
     r8 = λ p l lo ne. (let hi : p ≤ v .indexes = omega (arith, files .indexes) in
         λ w. (let word = rw (files .table p lo hi) at w in taken-file p (record { low = lo; high = hi; word = word }) ne (held .r8 p (omega arith) lo ne word)));
     r9 = files-R9 files (held .r9);

@@ -25,7 +25,7 @@ use Rattle.allocation.specs.declared.tail.Tail.{Tail}
 use Rattle.allocation.specs.declared.tail.Pushed.{Pushed}
 use Rattle.allocation.specs.declared.tail.Pushed.the-variants.{Joined, Beside, Further}
 use Rattle.allocation.specs.declared.growth.Cursor.{Cursor}
-use Rattle.allocation.specs.Choice.{nextBlock, blockStart, putBlock, inTurn}
+use Rattle.allocation.specs.Choice.{choose, blockStart, putBlock, inTurn}
 use Rattle.allocation.specs.NextPointer.{push, tailOf, placeOf, noPointer}
 use Rattle.allocation.specs.Plans.{tablesFor}
 use Rattle.allocation.specs.NewTables.{New, putChild}
@@ -34,7 +34,8 @@ use Rattle.allocation.specs.Stock.{Stocked}
 use Rattle.allocation.specs.Ready.{Head, HeadFor, Ready}
 use Rattle.allocation.specs.Steps.{Taken, SameFiles, Written, withPointer, Extended, childBytes, Made, parentBytes}
 use Rattle.allocation.proofs.TurnLaws.{turn-none, turn-step}
-use Rattle.allocation.proofs.NextGround.{next-ground, ground-trans, taken-ground}
+use Rattle.allocation.proofs.ChooseLaws.{choose-ground}
+use Rattle.allocation.proofs.NextGround.{ground-trans, taken-ground}
 use Rattle.allocation.proofs.TakenLaws.{length-putBlock, block-files}
 use Rattle.allocation.proofs.StepLaws.{pointer-written, child-extended}
 use Rattle.allocation.proofs.PlanLaws.{Goes, push-goes, stock-taken, stock-left, tables-step}
@@ -129,8 +130,8 @@ unfolding takenView push sightPointed
 laidView f t k s = sightPointed f (takenView (s .view) t k) (s .cursor) (push (s .cursor .tail) (blockStart t k) (blockOf t))
 
 unfoldable pub addView : ℕ → ℕ → Sight → Sight
-unfolding nextBlock laidView
-addView f t s = let k = nextBlock (s .view) t in laidView f t k s
+unfolding choose laidView
+addView f t s = let k = choose (s .view) (s .cursor .tail) t in laidView f t k s
 
 -- a new file, whose parent is the first table taken
 unfoldable pub startedView : View → New → Sight
@@ -219,7 +220,7 @@ pub record Shows (p : Places) (g : Growth) (s : Sight) : Type 0 where
   pub free : s .view .free ≡ freeOf (g .books)
   pub cursor : s .cursor ≡ g .cursor
 
-add-sight : (f t : ℕ) (s : Sight) → addView f t s ≡ laidView f t (nextBlock (s .view) t) s
+add-sight : (f t : ℕ) (s : Sight) → addView f t s ≡ laidView f t (choose (s .view) (s .cursor .tail) t) s
 unfolding addView
 add-sight f t s = refl
 
@@ -285,14 +286,14 @@ module _ (p : Places) (f : ℕ) (g : Growth) (s : Sight) (t : ℕ) (ts : List �
   pub shows-add : Shows p (addBlock p f t g) (addView f t s)
   shows-add =
       let b = g .books in
-      let k = nextBlock (viewOf p b) t in
+      let k = choose (viewOf p b) (g .cursor .tail) t in
       let r = push (g .cursor .tail) (blockStart t k) (blockOf t) in
-      let e : nextBlock (s .view) t ≡ k = next-ground (viewOf p b) (s .view) (same-ground (a .same)) t in
+      let e : choose (s .view) (s .cursor .tail) t ≡ k = rw (a .cursor) (choose-ground (viewOf p b) (s .view) (same-ground (a .same)) (g .cursor .tail) t) in
       let proper = ready-proper p f g t ts h in
       let files = block-files p b t k (h .layout) proper in
       rw (add-is p f t g, laid-is p f t k g, add-sight f t s, e, laid-sight f t k s, a .cursor)
       (shows-pointed p f (putBlock p b t k) (g .cursor) (takenView (s .view) t k)
-      (same-taken (viewOf p b) (s .view) _ (a .same) t k (stock-taken p b t ts (h .layout) (h .stocked)) files)
+      (same-taken (viewOf p b) (s .view) _ (a .same) t k (stock-taken p b (g .cursor .tail) t ts (h .layout) (h .stocked)) files)
       (free-taken (s .view) t k ∙ a .free ∙ sym (files .free))
       (rw (length-putBlock p b t k) (h .layout)) (h .low) (h .high)
       (λ q z. h .used (ap (λ (n : ℕ). wordOf (tableAt p b n)) (z ∙ files .head) ∙ chained-free p b (h .chained) (λ o. omega (arith, q .low, files .head)) .word))
@@ -328,12 +329,12 @@ pub tables-shown : (p : Places) (f : ℕ) (b : List ℕ) (s : Sight) (ts : List 
 unfolding tablesFor
 tables-shown p f b s [] lay st g = rw (turn-none (addView f) s)
 tables-shown p f b s (t ∷ ts) lay st g =
-    let k = nextBlock (viewOf p b) t in
+    let k = choose (viewOf p b) (s .cursor .tail) t in
     let l = push (s .cursor .tail) (blockStart t k) (blockOf t) in
     let w = takenView (s .view) t k in
-    let e : nextBlock (s .view) t ≡ k = next-ground (viewOf p b) (s .view) g t in
+    let e : choose (s .view) (s .cursor .tail) t ≡ k = choose-ground (viewOf p b) (s .view) g (s .cursor .tail) t in
     let r = pointed-ground f w (s .cursor) l in
-    let g' = taken-ground (viewOf p b) _ (s .view) w t k g (stock-taken p b t ts lay st) (view-taken (s .view) t k) in
+    let g' = taken-ground (viewOf p b) _ (s .view) w t k g (stock-taken p b (s .cursor .tail) t ts lay st) (view-taken (s .view) t k) in
     tables-step p b (s .cursor .tail) t ts ∙ ap (λ (x : Tail). tablesFor p (putBlock p b t k) x ts) (sym (r .1))
     ∙ rw (turn-step (addView f) t ts s, add-sight f t s, e, laid-sight f t k s)
-    (tables-shown p f (putBlock p b t k) (sightPointed f w (s .cursor) l) ts (rw (length-putBlock p b t k) lay) (stock-left p b t ts lay st) (ground-trans g' (r .0)))
+    (tables-shown p f (putBlock p b t k) (sightPointed f w (s .cursor) l) ts (rw (length-putBlock p b t k) lay) (stock-left p b (s .cursor .tail) t ts lay st) (ground-trans g' (r .0)))

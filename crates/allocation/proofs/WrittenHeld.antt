@@ -13,11 +13,12 @@ use Rattle.field.proofs.NumberLaws.{u16-kept, u32-kept}
 use Rattle.tables.specs.declared.index.Pointer.{Pointer}
 use Rattle.tables.specs.Kinds.{zoneOf}
 use Rattle.tables.specs.Indexes.{wordOf, parentOf, minus, slotsOf, baseOf, startOf, countOf, Used, sectorsOf, fileOf, pointerPlace}
-use Rattle.tables.specs.Views.{View, Begins, Parent, Child, walk, next, cov, overOf, Under}
+use Rattle.tables.specs.Views.{View, Begins, Parent, Child, walk, next, cov, claimsOf, overOf, Under}
 use Rattle.tables.specs.Rules.R5.{FileChain, Stands, R5}
 use Rattle.tables.specs.Rules.R6.{Run}
 use Rattle.tables.specs.Rules.R8.{InType}
 use Rattle.tables.proofs.ChainLaws.{chain-one}
+use Rattle.tables.proofs.FrameLaws.{header-kept}
 use Rattle.tables.proofs.IndexLaws.{slots-in, base-parent, base-low}
 use Rattle.tables.proofs.PointerLaws.{cov-cases, cov-in, cov-none, cov-join}
 use Rattle.tables.proofs.Sector1CountLaws.{only-eq}
@@ -113,8 +114,8 @@ module _ (v v' : View) (f at : ℕ) (q : Pointer) (c : Cursor) (w : Written v v'
   unused-from : (l : ℕ) → l < slotsOf i t → j < l → Used i t' l → ⊥
   unused-from l h g u = let ne : l ≢ j = λ q. omega arith in after l h g (rw (other-start l ne, other-count l ne) at u)
 
-  new-over : (s : ℕ) → overOf i t' s ≡ overOf i t s + cov a n s
-  unfolding overOf
+  new-over : (s : ℕ) → claimsOf i t' s ≡ claimsOf i t s + cov a n s
+  unfolding claimsOf overOf
   new-over s =
       let m = sum-at (slotsOf i t) j (λ l. cov (startOf i t' l) (countOf i t' l) s) (λ l. cov (startOf i t l) (countOf i t l) s) slot
       (λ l h ne. ap₂ (λ (x y : ℕ). cov x y s) (other-start l ne) (other-count l ne)) in
@@ -174,8 +175,7 @@ module _ (v v' : View) (f at : ℕ) (q : Pointer) (c : Cursor) (w : Written v v'
       | no ne ↦ rw (other-start l ne, other-count l ne) (ground-run v v' (w .ground) _ _ (o .used l (rw same-slots at h) (rw (other-start l ne, other-count l ne) at u)))
     ];
     one = λ g nf. used-to 0 (omega arith);
-    header = λ g k l. (let p : wordOf t ≡ i = sym (word-kept i kept behind) ∙ g in
-        kept .out (58 + k) (inl (omega (arith, base-parent i t p))) ∙ o .header p k l);
+    header = λ g. (let p : wordOf t ≡ i = sym (word-kept i kept behind) ∙ g in header-kept kept (inl (omega (arith, base-parent i t p))) (o .header p));
   }
 
   pub slot-held : (d d' : ℕ → ℕ) → ((s : ℕ) → cov a n s + d' s ≡ d s) → Held v f d → (k m : ℕ) → m ≡ suc j
@@ -187,8 +187,10 @@ module _ (v v' : View) (f at : ℕ) (q : Pointer) (c : Cursor) (w : Written v v'
       r4 = stay-R4 v v' f i change (w .head) (λ z. i-begins .2 (sym (i-begins .1 .word) ∙ z)) (h .r4);
       r5 = changed-R5 v v' f i change (h .r5) (e .long) chain (stands (h .r5)) (λ b. (j, rw same-slots slot, used-to j (omega arith)));
       r6 = changed-R6 v v' f i change (shape-but (h .r6 i (omega (arith, i-high)) i-low)) (h .r6);
-      r7 = λ s l lo. (let l' : s < 1024 * (v .zones - 1) = rw (w .ground .zones) at l in
-          omega (arith, pointers-at v v' f i change s, new-over s, less s, h .r7 s l' lo, w .ground .bit s (omega arith)));
+      r7 = record {
+        count = λ s l lo. (let l' : s < 1024 * (v .zones - 1) = rw (w .ground .zones) at l in
+            omega (arith, pointers-at v v' f i change s, new-over s, less s, h .r7 .count s l' lo, w .ground .bit s (omega arith)));
+      };
       r8 = changed-R8 v v' f i change (h .r6) (h .r8);
       r9 = stay-R9 v v' f i change (word-kept i kept behind) (λ g. u16-kept 44 kept (inl (omega (arith, base-parent i t g)))) (w .counts) (w .free) (h .r9);
     };

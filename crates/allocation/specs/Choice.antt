@@ -14,6 +14,7 @@ use Rattle.tables.specs.Views.{View}
 use Rattle.tables.specs.Open.{isOpen}
 use Rattle.tables.specs.Room.{spareIn}
 use Rattle.allocation.specs.declared.choice.Found.{Found}
+use Rattle.allocation.specs.declared.tail.Tail.{Tail}
 use Rattle.allocation.specs.Find.{find}
 
 -- "type H first, C last": the types of the blocks that are counted H to C
@@ -67,6 +68,11 @@ nextBlock v t =
     let here = begunBlock v t z in
     let there = openBlock v t in
     cond (ltb z (v .zones)) here there
+
+-- the block of type t that is added after the tail l: the next one, wherever the file's pointers end
+unfoldable pub choose : View → Tail → ℕ → Found
+unfolding nextBlock
+choose v l t = nextBlock v t
 
 -- ---- taken
 

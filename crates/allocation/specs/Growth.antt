@@ -11,7 +11,7 @@ use Rattle.allocation.specs.declared.tail.Tail.{Tail}
 use Rattle.allocation.specs.declared.tail.Pushed.{Pushed}
 use Rattle.allocation.specs.declared.tail.Pushed.the-variants.{Joined, Beside, Further}
 use Rattle.allocation.specs.declared.growth.Cursor.{Cursor}
-use Rattle.allocation.specs.Choice.{nextBlock, blockStart, putBlock}
+use Rattle.allocation.specs.Choice.{choose, blockStart, putBlock}
 use Rattle.allocation.specs.NextPointer.{push, placeOf}
 use Rattle.allocation.specs.NewTables.{putChild}
 
@@ -43,7 +43,7 @@ unfoldable pub laid : Places → ℕ → ℕ → Found → Growth → Growth
 unfolding putBlock push blockStart pointed
 laid p f t k g = pointed p f (putBlock p (g .books) t k) (g .cursor) (push (g .cursor .tail) (blockStart t k) (blockOf t))
 
--- with the next block of type t
+-- with the block of type t that is chosen
 unfoldable pub addBlock : Places → ℕ → ℕ → Growth → Growth
-unfolding nextBlock laid
-addBlock p f t g = let k = nextBlock (viewOf p (g .books)) t in laid p f t k g
+unfolding choose laid
+addBlock p f t g = let k = choose (viewOf p (g .books)) (g .cursor .tail) t in laid p f t k g

@@ -3,17 +3,17 @@
 use mathlib.Core.Path.{_≡_}
 use mathlib.Core.Logic.{_≢_}
 use mathlib.Core.List.{List}
-use Prim.Native.Nat.{ℕ, suc, _+_, _-_, _*_, _≤_, _<_}
+use Prim.Native.Nat.{ℕ, suc, _+_, _≤_, _<_}
 use lib.ListN.{getD}
-use Rattle.field.specs.Parts.{AllBytes}
 use Rattle.tables.specs.Each.{Each}
 use Rattle.tables.specs.Indexes.{wordOf, slotsOf, startOf, countOf, Used, pointerAt}
-use Rattle.tables.specs.Views.{View, Parent, walk, next, pointersOver}
+use Rattle.tables.specs.Views.{View, Parent, walk, next}
 use Rattle.tables.specs.Rules.R2.{R2}
 use Rattle.tables.specs.Rules.R3.{R3}
 use Rattle.tables.specs.Rules.R4.{R4}
 use Rattle.tables.specs.Rules.R5.{R5, FileChain}
-use Rattle.tables.specs.Rules.R6.{Run}
+use Rattle.tables.specs.Rules.R6.{Run, HeaderLaw}
+use Rattle.tables.specs.Rules.R7.{Owned}
 use Rattle.tables.specs.Rules.R8.{FileLaw, fileSectors, InType}
 use Rattle.tables.specs.Rules.R9.{R9}
 use Rattle.allocation.specs.declared.growth.Cursor.{Cursor}
@@ -24,22 +24,18 @@ pub record ShapeBut (v : View) (f i : ℕ) (t : List ℕ) : Type 0 where
   pub first : (j : ℕ) → suc j < slotsOf i t → Used i t (suc j) → Used i t j
   pub used : (j : ℕ) → j < slotsOf i t → Used i t j → Run v (startOf i t j) (countOf i t j)
   pub one : wordOf t ≡ i → i ≢ f → Used i t 0
-  pub header : wordOf t ≡ i → AllBytes t 58 6 0
+  pub header : wordOf t ≡ i → HeaderLaw t
 
--- d counts what is taken and not yet under a pointer
+-- d counts what is set besides: what is taken and not yet under a pointer among it
 pub record Held (v : View) (f : ℕ) (d : ℕ → ℕ) : Type 0 where
   pub r2 : R2 v
   pub r3 : R3 v
   pub r4 : R4 v
   pub r5 : R5 v
   pub r6 : Each (λ i. ShapeBut v f i (v .table i)) 1 (v .indexes + 1)
-  pub r7 : (s : ℕ) → s < 1024 * (v .zones - 1) → 1024 ≤ s → pointersOver v s + d s ≡ v .bit s
+  pub r7 : Owned v d
   pub r8 : (p : ℕ) → p < v .indexes + 1 → 1 ≤ p → p ≢ f → FileLaw v p
   pub r9 : R9 v
-
--- nothing is taken that is not under a pointer
-abbrev pub nothing : ℕ → ℕ
-nothing s = 0
 
 -- file f's pointers end at the cursor: its last table has room for as many as the tail says, and has used as many, the last of which is the
 -- tail's; a parent with none is a new file's

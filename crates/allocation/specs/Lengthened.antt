@@ -9,7 +9,7 @@ use Rattle.tables.specs.Views.{viewOf}
 use Rattle.tables.specs.Rules.R1.{Stand, Tails}
 use Rattle.tables.specs.Rules.R8.{fileSectors, InType}
 use Rattle.allocation.specs.Growth.{Growth}
-use Rattle.allocation.specs.Held.{Held, Ends, nothing}
+use Rattle.allocation.specs.Held.{Held, Ends}
 
 -- the sectors of blocks of these types
 unfoldable pub sectorsIn : List ℕ → ℕ
@@ -27,9 +27,9 @@ pub record Quiet (p : Places) (b b' : List ℕ) : Type 0 where
   pub low : (j : ℕ) → j < 1028 → getD b' j 0 ≡ getD b j 0
   pub tails : Stand p (length b) → Tails p b → Tails p b'
 
--- file f has got blocks of these types between the books of g and those of g'
-pub record Lengthened (p : Places) (f : ℕ) (g g' : Growth) (ts : List ℕ) : Type 0 where
-  pub held : Held (viewOf p (g' .books)) f nothing
+-- file f has got blocks of these types between the books of g and those of g', with `extra` set besides
+pub record Lengthened (extra : ℕ → ℕ) (p : Places) (f : ℕ) (g g' : Growth) (ts : List ℕ) : Type 0 where
+  pub held : Held (viewOf p (g' .books)) f extra
   pub ends : Ends (viewOf p (g' .books)) f (g' .cursor)
   pub sectors : fileSectors (viewOf p (g' .books)) f ≡ fileSectors (viewOf p (g .books)) f + sectorsIn ts
   pub front : (o : ℕ) → o < 58 → getD (viewOf p (g' .books) .table f) o 0 ≡ getD (viewOf p (g .books) .table f) o 0

@@ -12,7 +12,8 @@ use Rattle.tables.specs.Room.{countAt, Enough}
 use Rattle.tables.specs.Sector1.{freeOf, firstFreeOf, putLatest}
 use Rattle.tables.specs.Indexes.{fileOf, sectorsOf, putChanged, putLength, directoryBit, systemBit}
 use Rattle.tables.specs.Views.{View, viewOf, onlyIf}
-use Rattle.tables.specs.Lawful.{Lawful}
+use Rattle.tables.specs.Lawful.{LawfulWith}
+use Rattle.tables.specs.Rules.R7.{nothing}
 use Rattle.tables.specs.Rules.R1.{ceil}
 use Rattle.tables.specs.Rules.R8.{fileSectors, fileType}
 use Rattle.allocation.specs.declared.tail.Tail.{Tail}
@@ -37,13 +38,17 @@ onlyCounts t n = onlyAmong 6 t n
 abbrev pub TablesEnough : Places → List ℕ → Tail → List ℕ → Type 0
 TablesEnough p b l counts = tablesFor p b l (inOrder counts) ≤ freeOf b
 
--- blocks of these counts can be had, and so can the tables for them
-pub record Provided (p : Places) (b : List ℕ) (l : Tail) (counts : List ℕ) : Type 0 where
+-- blocks of these counts can be had, and so can the tables for them, with `extra` set besides
+pub record ProvidedWith (extra : ℕ → ℕ) (p : Places) (b : List ℕ) (l : Tail) (counts : List ℕ) : Type 0 where
   pub layout : Layout p (length b)
-  pub lawful : Lawful p b
+  pub lawful : LawfulWith extra p b
   pub six : length counts ≡ 6
   pub room : Enough (viewOf p b) (countAt counts)
   pub tables : TablesEnough p b l counts
+
+-- with nothing set besides
+abbrev pub Provided : Places → List ℕ → Tail → List ℕ → Type 0
+Provided = ProvidedWith nothing
 
 -- ---- a new file: "Index tables come off the free chain's head, parent first"
 

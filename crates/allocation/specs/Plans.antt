@@ -8,7 +8,7 @@ use Rattle.tables.specs.Blocks.{blockOf}
 use Rattle.tables.specs.Views.{viewOf}
 use Rattle.allocation.specs.declared.choice.Found.{Found}
 use Rattle.allocation.specs.declared.tail.Tail.{Tail}
-use Rattle.allocation.specs.Choice.{nextBlock, blockStart, putBlock, inTurn}
+use Rattle.allocation.specs.Choice.{choose, blockStart, putBlock, inTurn}
 use Rattle.allocation.specs.NextPointer.{push, tailOf}
 use Rattle.allocation.specs.Growth.{Growth, laid, addBlock}
 
@@ -20,10 +20,10 @@ planned p t k g = record {
   cursor = record { tail = tailOf (push (g .cursor .tail) (blockStart t k) (blockOf t)); table = g .cursor .table };
 }
 
--- the next block of type t
+-- the block of type t that is chosen
 unfoldable pub planBlock : Places → ℕ → Growth → Growth
-unfolding nextBlock planned
-planBlock p t g = let k = nextBlock (viewOf p (g .books)) t in planned p t k g
+unfolding choose planned
+planBlock p t g = let k = choose (viewOf p (g .books)) (g .cursor .tail) t in planned p t k g
 
 -- a plan from tail l on; it is in no table
 abbrev pub planFrom : List ℕ → Tail → Growth

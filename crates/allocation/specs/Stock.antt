@@ -4,7 +4,7 @@ use Prim.Native.Nat.{ℕ, _+_, _≤_}
 use lib.Dec.{eqb}
 use lib.ListN.{length}
 use Rattle.tables.specs.declared.places.Places.{Places}
-use Rattle.tables.specs.Blocks.{Typed}
+use Rattle.tables.specs.Blocks.{DataType}
 use Rattle.tables.specs.Places.{Layout}
 use Rattle.tables.specs.Views.{View, viewOf, onlyIf}
 use Rattle.tables.specs.Room.{Enough}
@@ -20,7 +20,7 @@ howMany (u ∷ ts) t = onlyIf (eqb u t) 1 + howMany ts t
 -- each is one of C to H
 unfoldable pub AllTyped : List ℕ → Type 0
 AllTyped [] = Unit {0}
-AllTyped (t ∷ ts) = Typed t × AllTyped ts
+AllTyped (t ∷ ts) = DataType t × AllTyped ts
 
 -- zones and sectors that keep R2 and R3 and have room for blocks of these types
 pub record Stocked (v : View) (ts : List ℕ) : Type 0 where

@@ -1,4 +1,5 @@
 // The choice of blocks, one at a time, and a block taken.
+use crate::tail::Tail;
 use tables::blocks::block_sectors;
 use tables::blocks::zone_blocks;
 use tables::kinds::Sector;
@@ -14,18 +15,24 @@ use tables::zone::zone_entry;
 ghost use mathlib.Core.Path.{_≡_};
 ghost use Prim.Native.Nat.{_-_, _≤_, _<_};
 ghost use lib.ListN.{length};
-ghost use Rattle.tables.specs.Blocks.{Typed, perZone};
+ghost use Rattle.tables.specs.Blocks.{DataType, perZone};
 ghost use Rattle.tables.specs.Places.{Layout};
 ghost use Rattle.tables.specs.Views.{viewOf};
 ghost use Rattle.allocation.specs.Find.{find};
 ghost use Rattle.allocation.specs.Choice.{begun, lowestOpen, isClear, openBlock, nextBlock, blockStart, putBlock};
-ghost use Rattle.allocation.specs.Candidates.{Proper, Behind};
+ghost use Rattle.allocation.specs.Candidates.{Proper, Behind, Chooses};
 
 // A block by its zone, its number in the zone, and the free blocks that the zone has without it.
 pub struct Found {
     pub zone: Zone,
     pub number: u32,
     pub free: u32,
+}
+
+// A block chosen, and where the search for the next one of its type may begin.
+pub struct Choice {
+    pub block: Found,
+    pub from: Found,
 }
 
 // The lowest zone from `from` on that has a free block of type t and isn't open, Z where there is none.
@@ -62,7 +69,7 @@ fn lowest_open(b: &[u8], p: Places) -> Zone
 // The lowest free block from `from` on of zone z, of type t.
 fn clear_from(b: &[u8], p: Places, t: u32, z: Zone, from: u32) -> u32
     requires { ⌜ Layout p (length (now b)) ⌝ }
-    requires { ⌜ Typed t ⌝ }
+    requires { ⌜ DataType t ⌝ }
     requires { ⌜ (2 ≤ z .0) × (z .0 < p .zones) × (from ≤ perZone t) ⌝ }
     ensures { λ r. ⌜ r ≡ find (isClear (viewOf p (now (b .entry))) t (z .0)) (perZone t - from) from ⌝ }
 {
@@ -82,7 +89,7 @@ fn clear_from(b: &[u8], p: Places, t: u32, z: Zone, from: u32) -> u32
 // Block 0 of the lowest open zone.
 fn open_block(b: &[u8], p: Places, t: u32) -> Found
     requires { ⌜ Layout p (length (now b)) ⌝ }
-    requires { ⌜ Typed t ⌝ }
+    requires { ⌜ DataType t ⌝ }
     ensures { λ r. ⌜ r ≡ openBlock (viewOf p (now (b .entry))) t ⌝ }
 {
     Found {
@@ -103,9 +110,9 @@ fn resume(z: Zone, last: Found) -> u32
 }
 
 // The next block of type t; none is looked for below the last one.
-pub fn next_block(b: &[u8], p: Places, t: u32, last: Found) -> Found
+fn next_block(b: &[u8], p: Places, t: u32, last: Found) -> Found
     requires { ⌜ Layout p (length (now b)) ⌝ }
-    requires { ⌜ Typed t ⌝ }
+    requires { ⌜ DataType t ⌝ }
     requires { ⌜ Behind (viewOf p (now b)) t last ⌝ }
     ensures { λ r. ⌜ r ≡ nextBlock (viewOf p (now (b .entry))) t ⌝ }
 {
@@ -120,9 +127,20 @@ pub fn next_block(b: &[u8], p: Places, t: u32, last: Found) -> Found
     }
 }
 
+// The block of type t that is added after the tail l; none is looked for below `from`.
+pub fn choose_block(b: &[u8], p: Places, l: Tail, t: u32, from: Found) -> Choice
+    requires { ⌜ Layout p (length (now b)) ⌝ }
+    requires { ⌜ DataType t ⌝ }
+    requires { ⌜ Behind (viewOf p (now b)) t from ⌝ }
+    ensures { λ r. ⌜ Chooses (viewOf p (now (b .entry))) l t r ⌝ }
+{
+    let k = next_block(b, p, t, from);
+    Choice { block: k, from: k }
+}
+
 // A block's first sector.
 pub fn block_start(t: u32, k: Found) -> Sector
-    requires { ⌜ Typed t ⌝ }
+    requires { ⌜ DataType t ⌝ }
     requires { ⌜ (1 ≤ k .zone .0) × (k .zone .0 ≤ 256) × (k .number < perZone t) ⌝ }
     ensures { λ r. ⌜ r .0 ≡ blockStart t k ⌝ }
 {

@@ -11,7 +11,7 @@ use tables::places::Places;
 ghost use mathlib.Core.Path.{_≡_};
 ghost use Prim.Native.Nat.{_≤_, _<_};
 ghost use lib.ListN.{length};
-ghost use Rattle.tables.specs.Blocks.{Typed};
+ghost use Rattle.tables.specs.Blocks.{DataType};
 ghost use Rattle.tables.specs.Sector1.{firstFreeOf};
 ghost use Rattle.tables.specs.Views.{viewOf, Parent};
 ghost use Rattle.allocation.specs.NextPointer.{noPointer};
@@ -20,7 +20,7 @@ ghost use Rattle.allocation.specs.MadeFiles.{onlyCounts, Provided, start
 
 // n blocks of type t and of no other, H to C.
 pub fn only_counts(t: u32, n: u32) -> [u32; 6]
-    requires { ⌜ Typed t ⌝ }
+    requires { ⌜ DataType t ⌝ }
     ensures { λ r. ⌜ r ≡ onlyCounts t n ⌝ }
 {
     let mut c = [0u32; 6];

@@ -1,7 +1,7 @@
 // A file gets blocks: each is chosen, taken, and pointed at.
 use crate::choice::Found;
 use crate::choice::block_start;
-use crate::choice::next_block;
+use crate::choice::choose_block;
 use crate::choice::put_block;
 use crate::table::put_child;
 use crate::tail::Pushed;
@@ -118,15 +118,16 @@ fn add_some(b: &mut [u8], p: Places, f: Index, t: u32, n: u32, c: Cursor, write:
     ensures { λ r. ⌜ record { books = now (b .exit); cursor = r } ≡ inTurn (stepOr write p (f .0)) (replicate n t) (record { books = now (b .entry); cursor = c }) ⌝ }
 {
     let mut cursor = c;
-    let mut last = Found {
+    let mut from = Found {
         zone: Zone(2),
         number: 0,
         free: 0,
     };
     let mut i: u32 = 0;
     while i < n {
-        last = next_block(b, p, t, last);
-        cursor = lay_or_plan(b, p, f, t, last, cursor, write);
+        let choice = choose_block(b, p, cursor.tail, t, from);
+        cursor = lay_or_plan(b, p, f, t, choice.block, cursor, write);
+        from = choice.from;
         i += 1;
     }
     cursor

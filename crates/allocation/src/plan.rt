@@ -4,6 +4,7 @@ use crate::growth::add_all;
 use crate::tail::Tail;
 use field::parts::copy;
 use tables::kinds::Index;
+use tables::kinds::ZONE_BITS;
 use tables::places::Places;
 ghost use mathlib.Core.Path.{_≡_};
 ghost use lib.ListN.{length};
@@ -36,7 +37,7 @@ fn copy_tables(s: &mut [u8], b: &[u8], p: Places)
     let zonetable = p.zonetable;
     let zoneend = zonetable + 6 * zones;
     let sectortable = p.sectortable;
-    let sectorend = sectortable + 128 * zones;
+    let sectorend = sectortable + ZONE_BITS * zones;
     copy(s, 2048, &b[zonetable..zoneend]);
     copy(s, 3584, &b[sectortable..sectorend]);
 }

@@ -5,6 +5,7 @@ use tables::extent::sectors_of;
 use tables::index::file;
 use tables::index::table;
 use tables::kinds::Index;
+use tables::kinds::SECTOR;
 use tables::places::Places;
 ghost use mathlib.Core.Path.{_≡_};
 ghost use Prim.Native.Nat.{_≤_, _<_};
@@ -15,6 +16,9 @@ ghost use Rattle.tables.specs.Views.{viewOf, Parent};
 ghost use Rattle.tables.specs.Rules.R6.{R6};
 ghost use Rattle.tables.specs.Rules.R8.{fileSectors};
 ghost use Rattle.allocation.specs.MadeFiles.{ownSectors, blocksFor};
+
+// A sector's bytes, as wide as sums over a file are.
+const SECTOR_BYTES: u64 = SECTOR as u64;
 
 // The sectors of file f that table i has.
 fn own_sectors(b: &[u8], p: Places, f: Index, i: Index) -> u64
@@ -50,11 +54,11 @@ pub fn blocks_for(b: &[u8], p: Places, f: Index, long: u32) -> u32
     requires { ⌜ Parent (viewOf p (now b)) (f .0) ⌝ }
     ensures { λ r. ⌜ r ≡ blocksFor (viewOf p (now (b .entry))) (f .0) long ⌝ }
 {
-    let have = 1024 * file_sectors(b, p, f);
+    let have = SECTOR_BYTES * file_sectors(b, p, f);
     let wanted = long as u64;
     if wanted <= have {
         return 0;
     }
-    let bytes = 1024 * (block_sectors(file_type(b, p, f)) as u64);
+    let bytes = SECTOR_BYTES * (block_sectors(file_type(b, p, f)) as u64);
     ((wanted - have + (bytes - 1)) / bytes) as u32
 }

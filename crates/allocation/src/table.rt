@@ -1,6 +1,7 @@
 // New index tables off the free chain's head, and the change of a file that grows.
 use tables::index;
 use tables::kinds::Index;
+use tables::kinds::TABLE_LEN;
 use tables::places::Places;
 use tables::sector1;
 ghost use mathlib.Core.Path.{_≡_};
@@ -23,7 +24,7 @@ fn take_table(b: &mut [u8], p: Places) -> Index
     let left = sector1::free_indexes(b) - 1;
     sector1::put_first_free(b, next);
     sector1::put_free(b, left);
-    index::erase(b, p, i, 128);
+    index::erase(b, p, i, TABLE_LEN);
     i
 }
 

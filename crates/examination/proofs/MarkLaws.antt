@@ -15,14 +15,14 @@ use Rattle.field.specs.Bits.{bitOf, bitAt}
 use Rattle.field.proofs.Tests.{says-map}
 use Rattle.field.proofs.Sums.{sum-more, sum-cut, sum-zero, sum-upto}
 use Rattle.field.proofs.NumberLaws.{u32-lt, getD-zeros}
-use Rattle.field.proofs.BitLaws.{bitAt-lt}
+use Rattle.field.proofs.BitLaws.{bit-lt, bitAt-lt}
 use Rattle.tables.specs.declared.index.Pointer.{Pointer}
 use Rattle.tables.specs.declared.places.Places.{Places}
 use Rattle.tables.specs.Places.{Layout}
 use Rattle.tables.specs.Indexes.{tableAt, pointerAt, slotsOf, baseOf, startOf, countOf, Used}
-use Rattle.tables.specs.Views.{View, viewOf, cov, overOf, tally, pointersOver}
+use Rattle.tables.specs.Views.{View, viewOf, cov, claimsOf, overOf, tally, claimsOver}
 use Rattle.tables.specs.Rules.R6.{R6, Shape}
-use Rattle.tables.specs.Rules.R7.{R7}
+use Rattle.tables.specs.Rules.R7.{Owned, R7}
 use Rattle.examination.specs.Marks.{Piece, markAt, wordAt, MarksAdded, Adds, overFirst, overTables, TableFits, Agrees}
 use Rattle.tables.proofs.IndexLaws.{length-table}
 use Rattle.examination.proofs.PieceLaws.{bit-low, bit-high, word-same}
@@ -91,15 +91,15 @@ module _ (t : List ℕ) (m₀ m : List ℕ) (base j : ℕ) (a : MarksAdded m₀ 
           let h = rw (← eb) at (f .fit j (omega arith)) in
           omega (arith, start-is, count-is)
 
-      pub first-stop : (r : Bool) (m' : List ℕ) → Adds r m m' (cov (q .start .0) (q .count)) → not r ≡ true → Adds false m₀ m' (overOf i t)
-      unfolding overFirst overOf
+      pub first-stop : (r : Bool) (m' : List ℕ) → Adds r m m' (cov (q .start .0) (q .count)) → not r ≡ true → Adds false m₀ m' (claimsOf i t)
+      unfolding overFirst claimsOf overOf
       first-stop r m' d e h =
           adds-false r m m' _ d e
           (λ n. rw (start-is, count-is) (omega (arith, rw (← eb, ← es) at (h n), a .bits n, sum-upto slots j (λ j. cov (u32At t (base + 6 * j)) (u16At t (base + 6 * j + 4)) n) l)))
 
       -- at a pointer with no sectors there are no more marks to add
-      pub first-rest : TableFits i t (length m₀) → q .count ≡ 0 → Adds true m₀ m (overOf i t)
-      unfolding overFirst overOf
+      pub first-rest : TableFits i t (length m₀) → q .count ≡ 0 → Adds true m₀ m (claimsOf i t)
+      unfolding overFirst claimsOf overOf
       first-rest f z = record {
         len = a .len;
         bits = λ n. rw (← eb, ← es) (omega (arith, a .bits n, cut n, sum-cut j (slots - j) (over n), none n));
@@ -114,15 +114,15 @@ module _ (t : List ℕ) (m₀ m : List ℕ) (base j : ℕ) (a : MarksAdded m₀ 
           none : (n : ℕ) → sumTo (slots - j) (λ k. over n (j + k)) ≡ 0
           none n = sum-zero (slots - j) _ (λ k lk. rw (rw (← eb) at (f .rest j (rw (← eb) (sym count-is ∙ z)) (j + k) (omega arith) (omega arith))) (cov-none _ n))
 
-  pub first-end : (i slots : ℕ) → base ≡ baseOf i t → slots ≡ slotsOf i t → j ≤ slots → slots ≤ j → Adds true m₀ m (overOf i t)
-  unfolding overFirst overOf
+  pub first-end : (i slots : ℕ) → base ≡ baseOf i t → slots ≡ slotsOf i t → j ≤ slots → slots ≤ j → Adds true m₀ m (claimsOf i t)
+  unfolding overFirst claimsOf overOf
   first-end i slots eb es h l = let e : j ≡ slotsOf i t = omega arith in rw (e, eb) at a
 
 -- ---- R6 gives that the pointers of a table fit, and that none lies over zone 1 or Z
 
 module _ (v : View) (i : ℕ) (shape : Shape v i (v .table i)) where
-  over-outside : (n : ℕ) → (n < 1024) ⊎ (1024 * (v .zones - 1) ≤ n) → overOf i (v .table i) n ≡ 0
-  unfolding overOf
+  over-outside : (n : ℕ) → (n < 1024) ⊎ (1024 * (v .zones - 1) ≤ n) → claimsOf i (v .table i) n ≡ 0
+  unfolding claimsOf overOf
   over-outside n d = sum-zero (slotsOf i (v .table i)) _ (λ j l. elim (decLt 0 (countOf i (v .table i) j)) [
     | yes u ↦ (let r = shape .used j l (omega arith) in ⊎-elim (λ h. cov-before _ _ n (omega (arith, r .low))) (λ h. cov-after _ _ n (omega (arith, r .high))) d)
     | no u ↦ (let e : countOf i (v .table i) j ≡ 0 = omega arith in rw e (cov-none _ n))
@@ -155,18 +155,18 @@ module _ (p : Places) (b : List ℕ) (lay : Layout p (length b)) (r6 : R6 (viewO
         rest = rest (viewOf p b) i shape;
       })
 
-  outside : (n : ℕ) → (n < 1024) ⊎ (1024 * (p .zones - 1) ≤ n) → pointersOver (viewOf p b) n ≡ 0
-  unfolding pointersOver tally
+  outside : (n : ℕ) → (n < 1024) ⊎ (1024 * (p .zones - 1) ≤ n) → claimsOver (viewOf p b) n ≡ 0
+  unfolding claimsOver tally
   outside n d = sum-zero (p .indexes) _ (λ k l. over-outside (viewOf p b) (k + 1) (r6 (k + 1) (omega arith) (omega arith)) n d)
 
   -- ---- the rule, from the marks
 
-  -- by R7 no sector is marked twice
-  pub rule-fits : R7 (viewOf p b) → (n : ℕ) → pointersOver (viewOf p b) n ≤ 1
-  rule-fits rule n = elim (decLt n 1024) [
+  -- by R7 no sector is marked twice, also with marks that were there before
+  rule-fits : {extra : ℕ → ℕ} → Owned (viewOf p b) extra → (n : ℕ) → extra n ≤ 1 → extra n + claimsOver (viewOf p b) n ≤ 1
+  rule-fits rule n most = elim (decLt n 1024) [
     | yes h ↦ omega (arith, outside n (inl h))
     | no h ↦ elim (decLt n (1024 * (p .zones - 1))) [
-      | yes g ↦ omega (arith, rule n g (omega arith), bitAt-lt b (p .sectortable) n)
+      | yes g ↦ omega (arith, rule .count n g (omega arith), bitAt-lt b (p .sectortable) n)
       | no g ↦ omega (arith, outside n (inr (omega arith)))
     ]
   ]
@@ -178,19 +178,19 @@ module _ (v : View) where
   unfolding overTables sumTo
   tables-none m = record { len = refl; bits = λ n. omega arith }
 
-  module _ (r : Bool) (m₀ m m' : List ℕ) (k : ℕ) (a : MarksAdded m₀ m (overTables v k)) (t : List ℕ) (e : t ≡ v .table (k + 1)) (d : Adds r m m' (overOf (k + 1) t)) where
+  module _ (r : Bool) (m₀ m m' : List ℕ) (k : ℕ) (a : MarksAdded m₀ m (overTables v k)) (t : List ℕ) (e : t ≡ v .table (k + 1)) (d : Adds r m m' (claimsOf (k + 1) t)) where
     pub tables-more : not r ≡ false → MarksAdded m₀ m' (overTables v (k + 1))
     unfolding overTables
     tables-more g =
         let x = rw e at (adds-true r m m' _ d g) in
-        record { len = x .len ∙ a .len; bits = λ n. omega (arith, x .bits n, a .bits n, sum-more k (λ k. overOf (k + 1) (v .table (k + 1)) n)) }
+        record { len = x .len ∙ a .len; bits = λ n. omega (arith, x .bits n, a .bits n, sum-more k (λ k. claimsOf (k + 1) (v .table (k + 1)) n)) }
 
-    pub tables-stop : k < v .indexes → not r ≡ true → Adds false m₀ m' (pointersOver v)
-    unfolding overTables pointersOver tally
-    tables-stop l g h = adds-false r m m' _ d g (λ n. rw e (omega (arith, h n, a .bits n, sum-upto (v .indexes) k (λ k. overOf (k + 1) (v .table (k + 1)) n) l)))
+    pub tables-stop : k < v .indexes → not r ≡ true → Adds false m₀ m' (claimsOver v)
+    unfolding overTables claimsOver tally
+    tables-stop l g h = adds-false r m m' _ d g (λ n. rw e (omega (arith, h n, a .bits n, sum-upto (v .indexes) k (λ k. claimsOf (k + 1) (v .table (k + 1)) n) l)))
 
-  pub tables-end : (m₀ m : List ℕ) (k : ℕ) → MarksAdded m₀ m (overTables v k) → k ≤ v .indexes → v .indexes ≤ k → Adds true m₀ m (pointersOver v)
-  unfolding overTables pointersOver tally
+  pub tables-end : (m₀ m : List ℕ) (k : ℕ) → MarksAdded m₀ m (overTables v k) → k ≤ v .indexes → v .indexes ≤ k → Adds true m₀ m (claimsOver v)
+  unfolding overTables claimsOver tally
   tables-end m₀ m k a h l = let e : k ≡ v .indexes = omega arith in rw e at a
 
 -- ---- words compared for bits
@@ -265,12 +265,23 @@ zeros-clear : (k n : ℕ) → markAt (replicate k 0) n ≡ 0
 unfolding markAt bitOf
 zeros-clear k n = rw (getD-zeros k (n / 64), zero-div (2 ^ (63 - n % 64)))
 
-module _ (p : Places) (b m : List ℕ) (d : Bool) where
-  pub rule-stop : Layout p (length b) → R6 (viewOf p b) → Adds d (replicate 4096 0) m (pointersOver (viewOf p b)) → not d ≡ true → R7 (viewOf p b) → ⊥
-  rule-stop lay r6 a e rule = adds-false d (replicate 4096 0) m _ a e (λ n. omega (arith, zeros-clear 4096 n, rule-fits p b lay r6 rule n))
+-- a mark is 0 or 1
+mark-one : (m : List ℕ) (n : ℕ) → markAt m n ≤ 1
+unfolding markAt
+mark-one m n = omega (arith, bit-lt (getD m (n / 64) 0) (63 - n % 64))
 
-  pub rule-end : (r : Bool) → Adds d (replicate 4096 0) m (pointersOver (viewOf p b)) → not d ≡ false → Says r (Agrees p b m) → Says r (R7 (viewOf p b))
-  rule-end r a e s =
-      let x = adds-true d (replicate 4096 0) m _ a e in
-      let q : (n : ℕ) → markAt m n ≡ pointersOver (viewOf p b) n = λ n. omega (arith, x .bits n, zeros-clear 4096 n) in
-      says-map r (λ h n l lo. sym (q n) ∙ h n l lo) (λ h n l lo. q n ∙ h n l lo) s
+module _ (p : Places) (b m₀ m : List ℕ) (d : Bool) (a : Adds d m₀ m (claimsOver (viewOf p b))) where
+  pub owned-stop : Layout p (length b) → R6 (viewOf p b) → not d ≡ true → Owned (viewOf p b) (markAt m₀) → ⊥
+  owned-stop lay r6 e rule = adds-false d m₀ m _ a e (λ n. rule-fits p b lay r6 rule n (mark-one m₀ n))
+
+  pub owned-end : (r : Bool) → not d ≡ false → Says r (Agrees p b m) → Says r (Owned (viewOf p b) (markAt m₀))
+  owned-end r e s =
+      let y = adds-true d m₀ m _ a e in
+      says-map r (λ h. record { count = λ n l lo. omega (arith, y .bits n, h n l lo) }) (λ h n l lo. omega (arith, y .bits n, h .count n l lo)) s
+
+-- what is set besides may be said in another way
+owned-same : {v : View} {x y : ℕ → ℕ} → ((s : ℕ) → x s ≡ y s) → Owned v x → Owned v y
+owned-same e r = record { count = λ s l lo. omega (arith, e s, r .count s l lo) }
+
+pub rule-says : (p : Places) (b : List ℕ) (r : Bool) → Says r (Owned (viewOf p b) (markAt (replicate 4096 0))) → Says r (R7 (viewOf p b))
+rule-says p b r s = says-map r (owned-same (λ n. zeros-clear 4096 n)) (owned-same (λ n. sym (zeros-clear 4096 n))) s

@@ -119,7 +119,7 @@ module _ (t : List ℕ) (q : Pointer) (u : Bool) (at : q ≡ pointerAt t 64) (s 
   heads-none e h = read-zero t 64 q at (says-true u s e) (h .one)
 
   pub heads-says : (r : Bool) → u ≡ false → Says r (AllBytes t 58 6 0) → Says r (Heads t)
-  heads-says r e = says-map r (λ all. record { one = read-used t 64 q at (says-false u s e); header = all }) (λ h. h .header)
+  heads-says r e = says-map r (λ all. record { one = read-used t 64 q at (says-false u s e); header = record { zero = all } }) (λ h. h .header .zero)
 
 -- ---- a table
 

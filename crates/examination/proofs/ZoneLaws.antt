@@ -13,7 +13,7 @@ use Rattle.field.proofs.Tests.{passed, refused, says-true, says-false, says-map
 use Rattle.examination.proofs.FindingLaws.{each-none, each-more, fails-here, holds-all}
 use Rattle.tables.specs.declared.places.Places.{Places}
 use Rattle.tables.specs.declared.zone.ZoneEntry.{ZoneEntry}
-use Rattle.tables.specs.Blocks.{Typed, blockOf}
+use Rattle.tables.specs.Blocks.{ZoneType, blockOf}
 use Rattle.tables.specs.Each.{Each}
 use Rattle.examination.specs.Findings.{Lowest}
 use Rattle.tables.specs.Kinds.{firstOf}
@@ -40,7 +40,7 @@ reads-says e t f h p q = says-eq (e .third) h (λ s. record { ztype = p; free = 
 
 -- ---- a type
 
-pub typed-now : (t : ℕ) (r : Bool) → Says r (Typed t) → not r ≡ false → Typed t
+pub typed-now : (t : ℕ) (r : Bool) → Says r (ZoneType t) → not r ≡ false → ZoneType t
 typed-now t r s n = passed r s n
 
 -- ---- a zone's bits
@@ -70,10 +70,10 @@ module _ (v : View) (z : ℕ) (e : ZoneEntry) (is : e ≡ v .zone z) where
     used : Untyped v z ⊎ InUse v z → InUse v z
     used = ⊎-elim (λ u. absurd (says-false q s n (rw is (u .reads)))) (λ u. u)
 
-    pub other-untyped : (r : Bool) → Says r (Typed (e .ztype)) → not r ≡ true → Untyped v z ⊎ InUse v z → ⊥
+    pub other-untyped : (r : Bool) → Says r (ZoneType (e .ztype)) → not r ≡ true → Untyped v z ⊎ InUse v z → ⊥
     other-untyped r t x u = refused r t x (rw is (used u .typed))
 
-    pub other-third : (r : Bool) → Says r (Typed (e .ztype)) → not r ≡ false → Says (eqb (e .third) 0) (Untyped v z ⊎ InUse v z)
+    pub other-third : (r : Bool) → Says r (ZoneType (e .ztype)) → not r ≡ false → Says (eqb (e .third) 0) (Untyped v z ⊎ InUse v z)
     other-third r y x =
         says-eq (e .third) 0 (λ t. inr (record { typed = rw is at (passed r y x); third = sym (ap (λ (x : ZoneEntry). x .third) is) ∙ t }))
         (λ u. ap (λ (x : ZoneEntry). x .third) is ∙ used u .third)
@@ -101,7 +101,7 @@ module _ (v : View) (z : ℕ) where
 -- ---- R3: a zone whose entry is e
 
 module _ (v : View) (z : ℕ) (e : ZoneEntry) (is : e ≡ v .zone z) where
-  module _ (q : Bool) (typed : Says q (Typed (e .ztype))) where
+  module _ (q : Bool) (typed : Says q (ZoneType (e .ztype))) where
     pub law-untyped : not q ≡ true → BlockLaw v z
     law-untyped n t = absurd (refused q typed n (rw is t))
 

@@ -12,12 +12,12 @@ use Rattle.field.specs.Says.{Says}
 use Rattle.field.proofs.Tests.{passed, refused, says-map, says-eq}
 use Rattle.tables.specs.declared.zone.ZoneEntry.{ZoneEntry}
 use Rattle.tables.specs.Kinds.{zoneOf, firstOf}
-use Rattle.tables.specs.Blocks.{Typed, blockOf, Block, Whole}
+use Rattle.tables.specs.Blocks.{ZoneType, DataType, blockOf, Block, Whole}
 use Rattle.tables.specs.Each.{Each}
 use Rattle.tables.specs.Views.{View, cov}
 use Rattle.tables.specs.Rules.R6.{Run}
 use Rattle.examination.specs.ZoneParts.{Inside, Lone, Meets, Edge, Part, Parts}
-use Rattle.tables.proofs.BlockLaws.{block-of, block-end, block-in}
+use Rattle.tables.proofs.BlockLaws.{data-zone, block-of, block-end, block-in}
 use Rattle.examination.proofs.FindingLaws.{each-more}
 use Rattle.tables.proofs.PointerLaws.{cov-in, cov-before, cov-after}
 
@@ -156,11 +156,15 @@ module _ (a c size : ℕ) (b : Block size) (h : Lone a c) where
 
 -- ---- a zone's entry
 
+-- a type in which files lie has a block size
+pub data-now : (t : ℕ) (r : Bool) → Says r (DataType t) → not r ≡ false → ZoneType t
+data-now t r s n = data-zone (passed r s n)
+
 module _ (v : View) (a c z : ℕ) (e : ZoneEntry) (at : e ≡ v .zone z) where
-  pub part-untyped : (r : Bool) → Says r (Typed (e .ztype)) → not r ≡ true → Part v a c z → ⊥
+  pub part-untyped : (r : Bool) → Says r (DataType (e .ztype)) → not r ≡ true → Part v a c z → ⊥
   part-untyped r s n part = refused r s n (rw at (part .typed))
 
-  pub part-says : (t r : Bool) (from size : ℕ) → Says t (Typed (e .ztype)) → not t ≡ false → from ≡ firstOf z → size ≡ blockOf (e .ztype) → Says r (Whole (cov a c) from size) → Says r (Part v a c z)
+  pub part-says : (t r : Bool) (from size : ℕ) → Says t (DataType (e .ztype)) → not t ≡ false → from ≡ firstOf z → size ≡ blockOf (e .ztype) → Says r (Whole (cov a c) from size) → Says r (Part v a c z)
   part-says t r from size typed n f s =
       let q : e .ztype ≡ v .zone z .ztype = ap (λ (x : ZoneEntry). x .ztype) at in
       let g : size ≡ blockOf (v .zone z .ztype) = s ∙ ap blockOf q in
@@ -168,10 +172,10 @@ module _ (v : View) (a c z : ℕ) (e : ZoneEntry) (at : e ≡ v .zone z) where
 
 -- the same where the entry is that of the zone of a run within one zone
 module _ (v : View) (a c z : ℕ) (e : ZoneEntry) (at : e ≡ v .zone z) (is : z ≡ zoneOf a) where
-  pub lone-untyped : (r : Bool) → Says r (Typed (e .ztype)) → not r ≡ true → Part v a c (zoneOf a) → ⊥
+  pub lone-untyped : (r : Bool) → Says r (DataType (e .ztype)) → not r ≡ true → Part v a c (zoneOf a) → ⊥
   lone-untyped r s n part = part-untyped v a c (zoneOf a) e (rw is at at) r s n part
 
-  pub part-lone : (t r : Bool) (size : ℕ) → Says t (Typed (e .ztype)) → not t ≡ false → size ≡ blockOf (e .ztype) → Says r (Whole (cov a c) (firstOf (zoneOf a)) size) → Says r (Part v a c (zoneOf a))
+  pub part-lone : (t r : Bool) (size : ℕ) → Says t (DataType (e .ztype)) → not t ≡ false → size ≡ blockOf (e .ztype) → Says r (Whole (cov a c) (firstOf (zoneOf a)) size) → Says r (Part v a c (zoneOf a))
   part-lone t r size typed n s = part-says v a c (zoneOf a) e (rw is at at) t r (firstOf (zoneOf a)) size typed n refl s
 
 -- ---- zones
@@ -215,9 +219,9 @@ module _ (v : View) (a c : ℕ) (i : Inside (v .zones) a c) (few : c ≤ 32767) 
   run-parts : Run v a c → Parts v a c
   run-parts r z l h =
       let t = met (ℕ-discrete z (zoneOf a)) in
-      record { typed = t; whole = r .whole z (omega (arith, i .some, i .high)) (omega (arith, i .low)) t }
+      record { typed = t; whole = r .whole z (omega (arith, i .some, i .high)) (omega (arith, i .low)) (data-zone t) }
     where
-      met : Dec (z ≡ zoneOf a) → Typed (v .zone z .ztype)
+      met : Dec (z ≡ zoneOf a) → DataType (v .zone z .ztype)
       met (yes e) = rw e (r .typed a (omega (arith, i .some)) (omega arith))
       met (no ne) = (let e : zoneOf (firstOf z) ≡ z = omega arith in rw e at (r .typed (firstOf z) (omega (arith, i .some)) (omega arith)))
 

@@ -10,7 +10,7 @@ use Rattle.field.specs.Sum.{sumTo}
 use Rattle.tables.specs.declared.places.Places.{Places}
 use Rattle.tables.specs.Sectors.{sectorAt}
 use Rattle.tables.specs.Indexes.{slotsOf, startOf, countOf}
-use Rattle.tables.specs.Views.{View, cov, overOf}
+use Rattle.tables.specs.Views.{View, cov, claimsOf}
 
 -- ---- a word of marks
 
@@ -49,7 +49,7 @@ unfoldable pub overFirst : List ℕ → ℕ → ℕ → ℕ → ℕ
 overFirst t base n s = sumTo n (λ j. cov (u32At t (base + 6 * j)) (u16At t (base + 6 * j + 4)) s)
 
 unfoldable pub overTables : View → ℕ → ℕ → ℕ
-overTables v n s = sumTo n (λ k. overOf (k + 1) (v .table (k + 1)) s)
+overTables v n s = sumTo n (λ k. claimsOf (k + 1) (v .table (k + 1)) s)
 
 -- the pointers of table i end within the marks, and after one with no sectors there is none with any
 pub record TableFits (i : ℕ) (t : List ℕ) (len : ℕ) : Type 0 where

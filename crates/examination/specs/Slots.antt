@@ -2,10 +2,9 @@
 use Prim.Native.Nat.{ℕ, suc, _+_, _*_, _<_}
 use mathlib.Core.List.{List}
 use Rattle.field.specs.Numbers.{u16At, u32At}
-use Rattle.field.specs.Parts.{AllBytes}
 use Rattle.tables.specs.Indexes.{UsedAt}
 use Rattle.tables.specs.Views.{View}
-use Rattle.tables.specs.Rules.R6.{Run}
+use Rattle.tables.specs.Rules.R6.{Run, HeaderLaw}
 
 -- "Used pointers come first, unused ones are zero", and each used one is a lawful run
 pub record SlotsLaw (v : View) (t : List ℕ) (at n : ℕ) : Type 0 where
@@ -24,4 +23,4 @@ Leading v t at j = (k : ℕ) → k < j → GoodSlot v t (at + 6 * k)
 -- "A parent has one at least, and a zero header pointer."
 pub record Heads (t : List ℕ) : Type 0 where
   pub one : UsedAt t 64
-  pub header : AllBytes t 58 6 0
+  pub header : HeaderLaw t

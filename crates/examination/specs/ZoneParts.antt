@@ -3,7 +3,7 @@ use mathlib.Core.Path.{_≡_}
 use mathlib.Core.Logic.{_⊎_}
 use Prim.Native.Nat.{ℕ, _+_, _-_, _*_, _%_, _≤_, _<_}
 use Rattle.tables.specs.Kinds.{zoneOf, firstOf}
-use Rattle.tables.specs.Blocks.{Typed, blockOf, Whole}
+use Rattle.tables.specs.Blocks.{DataType, blockOf, Whole}
 use Rattle.tables.specs.Each.{Each}
 use Rattle.tables.specs.Views.{View, cov}
 
@@ -30,7 +30,7 @@ Edge end from size = (from + 1024 ≤ end) ⊎ ((end - from) % size ≡ 0)
 
 -- "lies in zones of type 3-8; its part in each zone is whole blocks", of zone z
 pub record Part (v : View) (a c z : ℕ) : Type 0 where
-  pub typed : Typed (v .zone z .ztype)
+  pub typed : DataType (v .zone z .ztype)
   pub whole : Whole (cov a c) (firstOf z) (blockOf (v .zone z .ztype))
 
 -- the same of each zone from that of the first sector to that of the last

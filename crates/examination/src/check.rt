@@ -10,6 +10,11 @@ use crate::pointers::rule6;
 use crate::tails::tails_null;
 use crate::zones::rule2;
 use crate::zones::rule3;
+use tables::kinds::ROUND_UP_LEN;
+use tables::kinds::SECTOR;
+use tables::kinds::SECTOR_LEN;
+use tables::kinds::TABLE;
+use tables::kinds::ZONE;
 use tables::places::Places;
 use tables::places::read_places;
 use tables::sector0;
@@ -36,7 +41,7 @@ pub enum Checked {
 pub fn sized(b: &[u8]) -> bool
     ensures { λ r. ⌜ Says r (Sized (now (b .entry))) ⌝ }
 {
-    if b.len() % 1024 != 0 {
+    if b.len() % SECTOR_LEN != 0 {
         return false;
     }
     if b.len() < 5120 {
@@ -81,13 +86,13 @@ fn limits(b: &[u8]) -> bool
     if indexes > 4096 {
         return false;
     }
-    if sector0::sectors_per_zone(b) != 1024 {
+    if sector0::sectors_per_zone(b) != ZONE {
         return false;
     }
-    if sector0::bytes_per_sector(b) != 1024 {
+    if sector0::bytes_per_sector(b) != SECTOR {
         return false;
     }
-    if sector0::index_size(b) != 128 {
+    if sector0::index_size(b) != TABLE {
         return false;
     }
     true
@@ -115,13 +120,13 @@ pub fn stands(p: Places, len: usize) -> bool
     if zonetable > len {
         return false;
     }
-    if zonetable + 1024 * ((6 * zones + 1023) / 1024) > sectortable {
+    if zonetable + SECTOR_LEN * ((6 * zones + ROUND_UP_LEN) / SECTOR_LEN) > sectortable {
         return false;
     }
-    if sectortable + 1024 * ((zones + 7) / 8) > indextable {
+    if sectortable + SECTOR_LEN * ((zones + 7) / 8) > indextable {
         return false;
     }
-    if indextable + 1024 * ((indexes + 7) / 8) > len {
+    if indextable + SECTOR_LEN * ((indexes + 7) / 8) > len {
         return false;
     }
     true

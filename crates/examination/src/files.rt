@@ -10,6 +10,8 @@ use tables::index;
 use tables::kind::is_parent;
 use tables::kind::is_variable;
 use tables::kinds::Index;
+use tables::kinds::ROUND_UP;
+use tables::kinds::SECTOR;
 use tables::name::name_valid;
 use tables::places::Places;
 ghost use mathlib.Core.Path.{_≡_};
@@ -30,7 +32,7 @@ fn size_valid(bytes: u32, variable: bool, sectors: u32, mark: u8) -> bool
     if bytes > 2147483647 {
         return false;
     }
-    if (bytes + 1023) / 1024 > sectors {
+    if (bytes + ROUND_UP) / SECTOR > sectors {
         return false;
     }
     if variable {

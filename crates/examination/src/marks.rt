@@ -11,10 +11,10 @@ ghost use Prim.Native.Nat.{_+_, _-_, _/_, _^_, _≤_, _<_};
 ghost use lib.ListN.{length};
 ghost use Rattle.field.specs.Says.{Says};
 ghost use Rattle.tables.specs.Places.{Layout};
-ghost use Rattle.tables.specs.Views.{viewOf, cov, overOf, pointersOver};
+ghost use Rattle.tables.specs.Views.{viewOf, cov, claimsOf, claimsOver};
 ghost use Rattle.tables.specs.Rules.R6.{R6};
-ghost use Rattle.tables.specs.Rules.R7.{R7};
-ghost use Rattle.examination.specs.Marks.{InWord, Piece, Adds, TableFits, Agrees, wordAt};
+ghost use Rattle.tables.specs.Rules.R7.{Owned, R7};
+ghost use Rattle.examination.specs.Marks.{InWord, Piece, Adds, TableFits, Agrees, markAt, wordAt};
 
 // The marks of a word, the words of a zone, and the words of 256 zones.
 const WORD: u32 = 64;
@@ -91,7 +91,7 @@ fn mark_run(m: &mut [u64], q: Pointer) -> bool
 // Marks the sectors under the pointers of table i. Used pointers come first, so the first one with no sectors ends them.
 fn mark_pointers(i: Index, t: &[u8], m: &mut [u64]) -> bool
     requires { ⌜ TableFits (i .0) (now t) (length (now m)) ⌝ }
-    ensures { λ r. ⌜ Adds r (now (m .entry)) (now (m .exit)) (overOf (i .0) (now (t .entry))) ⌝ }
+    ensures { λ r. ⌜ Adds r (now (m .entry)) (now (m .exit)) (claimsOf (i .0) (now (t .entry))) ⌝ }
 {
     let slots = index::slots(i, t);
     let base = index::base(i, t);
@@ -114,7 +114,7 @@ fn mark_all(b: &[u8], p: Places, m: &mut [u64]) -> bool
     requires { ⌜ Layout p (length (now b)) ⌝ }
     requires { ⌜ R6 (viewOf p (now b)) ⌝ }
     requires { ⌜ length (now m) ≡ 4096 ⌝ }
-    ensures { λ r. ⌜ Adds r (now (m .entry)) (now (m .exit)) (pointersOver (viewOf p (now (b .entry)))) ⌝ }
+    ensures { λ r. ⌜ Adds r (now (m .entry)) (now (m .exit)) (claimsOver (viewOf p (now (b .entry)))) ⌝ }
 {
     let indexes = p.indexes;
     let mut i: u32 = 0;
@@ -154,15 +154,25 @@ fn agrees(b: &[u8], p: Places, m: &[u64]) -> bool
     true
 }
 
-// Is each sector outside zones 1 and Z under one pointer if its bit is set, else under none?
+// Is each sector outside zones 1 and Z marked already or under one pointer, and not both, exactly if its bit is set?
+fn owned(b: &[u8], p: Places, m: &mut [u64]) -> bool
+    requires { ⌜ Layout p (length (now b)) ⌝ }
+    requires { ⌜ R6 (viewOf p (now b)) ⌝ }
+    requires { ⌜ length (now m) ≡ 4096 ⌝ }
+    ensures { λ r. ⌜ Says r (Owned (viewOf p (now (b .entry))) (markAt (now (m .entry)))) ⌝ }
+{
+    if !mark_all(b, p, m) {
+        return false;
+    }
+    agrees(b, p, m)
+}
+
+// Is each under one pointer if its bit is set, else under none?
 pub fn rule7(b: &[u8], p: Places) -> bool
     requires { ⌜ Layout p (length (now b)) ⌝ }
     requires { ⌜ R6 (viewOf p (now b)) ⌝ }
     ensures { λ r. ⌜ Says r (R7 (viewOf p (now (b .entry)))) ⌝ }
 {
     let mut m = [0u64; WORDS];
-    if !mark_all(b, p, &mut m) {
-        return false;
-    }
-    agrees(b, p, &m)
+    owned(b, p, &mut m)
 }

@@ -1,8 +1,8 @@
 // Rule R6: used pointers come first, and each is a lawful run; a parent has one, and a zero header pointer.
 use crate::finding::Finding;
-use crate::zones::is_typed;
 use field::parts::bytes_all;
 use tables::blocks::block_sectors;
+use tables::blocks::is_data_type;
 use tables::entry::decode;
 use tables::index;
 use tables::index::Pointer;
@@ -76,7 +76,7 @@ fn part_valid(b: &[u8], p: Places, q: Pointer, z: Zone) -> bool
     ensures { λ r. ⌜ Says r (Part (viewOf p (now (b .entry))) (q .start .0) (q .count) (z .0)) ⌝ }
 {
     let t = zone_entry(b, p, z).ztype;
-    if !is_typed(t) {
+    if !is_data_type(t) {
         return false;
     }
     edges_whole(q, first_sector(z), block_sectors(t))
@@ -102,7 +102,7 @@ fn lone_valid(b: &[u8], p: Places, q: Pointer) -> bool
     ensures { λ r. ⌜ Says r (Part (viewOf p (now (b .entry))) (q .start .0) (q .count) (zoneOf (q .start .0))) ⌝ }
 {
     let t = zone_entry(b, p, zone_of(q.start)).ztype;
-    if !is_typed(t) {
+    if !is_data_type(t) {
         return false;
     }
     lone_whole(q, block_sectors(t))

@@ -1,5 +1,8 @@
 // R1's tails: what the zone and the sector table leave of their last sectors is null.
 use field::parts::bytes_all;
+use tables::kinds::ROUND_UP_LEN;
+use tables::kinds::SECTOR_LEN;
+use tables::kinds::ZONE_BITS;
 use tables::places::Places;
 ghost use lib.ListN.{length};
 ghost use Rattle.field.specs.Says.{Says};
@@ -12,10 +15,10 @@ pub fn tails_null(b: &[u8], p: Places) -> bool
     ensures { λ r. ⌜ Says r (Tails p (now (b .entry))) ⌝ }
 {
     let z = p.zones as usize;
-    let entries = 1024 * ((6 * z + 1023) / 1024);
+    let entries = SECTOR_LEN * ((6 * z + ROUND_UP_LEN) / SECTOR_LEN);
     if !bytes_all(b, p.zonetable + 6 * z, entries - 6 * z, 0) {
         return false;
     }
-    let bits = 1024 * ((z + 7) / 8);
-    bytes_all(b, p.sectortable + 128 * z, bits - 128 * z, 0)
+    let bits = SECTOR_LEN * ((z + 7) / 8);
+    bytes_all(b, p.sectortable + ZONE_BITS * z, bits - ZONE_BITS * z, 0)
 }

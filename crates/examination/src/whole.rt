@@ -5,6 +5,7 @@ use field::numbers::wide;
 use field::runs::bits_all;
 use tables::kinds::Sector;
 use tables::kinds::ZONE;
+use tables::kinds::ZONE_BITS;
 ghost use mathlib.Core.Path.{_≡_};
 ghost use Prim.Native.Nat.{_+_, _%_};
 ghost use lib.ListN.{length};
@@ -12,6 +13,9 @@ ghost use Rattle.field.specs.Says.{Says};
 ghost use Rattle.field.specs.Bits.{bitAt};
 ghost use Rattle.field.specs.Runs.{Room, AllBits};
 ghost use Rattle.tables.specs.Blocks.{Block, Whole};
+
+// The bytes of a zone's bits.
+const BYTES: u32 = ZONE_BITS as u32;
 
 // Are the bits of a block all as its first?
 fn block_whole(s: &[u8], base: usize, at: Sector, size: u32) -> bool
@@ -58,7 +62,7 @@ fn fours_whole(s: &[u8], base: usize, from: Sector) -> bool
     ensures { λ r. ⌜ Says r (Whole (bitAt (now (s .entry)) base) (from .0) 4) ⌝ }
 {
     let mut i: u32 = 0;
-    while i < 128 {
+    while i < BYTES {
         if !two_whole(s, base, Sector(from.0 + 8 * i)) {
             return false;
         }

@@ -3,9 +3,8 @@ use crate::finding::Finding;
 use crate::whole::blocks_whole;
 use field::runs::bits_all;
 use field::runs::count_bits;
-use tables::blocks::HIGHEST;
-use tables::blocks::LOWEST;
 use tables::blocks::block_sectors;
+use tables::blocks::is_zone_type;
 use tables::kinds::ZONE;
 use tables::kinds::Zone;
 use tables::kinds::first_sector;
@@ -16,7 +15,7 @@ ghost use mathlib.Core.Logic.{_⊎_};
 ghost use Prim.Native.Nat.{_+_, _≤_, _<_};
 ghost use lib.ListN.{length};
 ghost use Rattle.field.specs.Says.{Says};
-ghost use Rattle.tables.specs.Blocks.{Typed, Block};
+ghost use Rattle.tables.specs.Blocks.{Block};
 ghost use Rattle.examination.specs.Findings.{Finds};
 ghost use Rattle.tables.specs.Kinds.{firstOf};
 ghost use Rattle.tables.specs.Places.{Layout};
@@ -24,19 +23,6 @@ ghost use Rattle.tables.specs.Rules.R2.{Reads, ZoneBits, Untyped, InUse, ZoneLa
 ghost use Rattle.tables.specs.Rules.R3.{Blocks, BlockLaw};
 ghost use Rattle.tables.specs.Views.{viewOf};
 ghost use Rattle.tables.specs.Zones.{zoneAt};
-
-// Is t a type of zones that files lie in?
-pub fn is_typed(t: u32) -> bool
-    ensures { λ r. ⌜ Says r (Typed t) ⌝ }
-{
-    if t < LOWEST {
-        return false;
-    }
-    if t > HIGHEST {
-        return false;
-    }
-    true
-}
 
 fn reads(e: ZoneEntry, ztype: u32, free: u32, third: u32) -> bool
     ensures { λ r. ⌜ Says r (Reads e ztype free third) ⌝ }
@@ -86,7 +72,7 @@ fn other_zone(b: &[u8], p: Places, z: Zone) -> bool
     if reads(e, 0, 0, 0) {
         return zone_bits(b, p, z, 0);
     }
-    if !is_typed(e.ztype) {
+    if !is_zone_type(e.ztype) {
         return false;
     }
     e.third == 0
@@ -142,7 +128,7 @@ fn block_law(b: &[u8], p: Places, z: Zone) -> bool
     ensures { λ r. ⌜ Says r (BlockLaw (viewOf p (now (b .entry))) (z .0)) ⌝ }
 {
     let e = zone_entry(b, p, z);
-    if !is_typed(e.ztype) {
+    if !is_zone_type(e.ztype) {
         return true;
     }
     blocks_valid(b, p, z, block_sectors(e.ztype), e.free)

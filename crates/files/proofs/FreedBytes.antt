@@ -21,7 +21,7 @@ use Rattle.tables.specs.declared.places.Places.{Places}
 use Rattle.tables.specs.Indexes.{tablePlace, tableAt, linkOf, slotsOf, startOf, countOf}
 use Rattle.tables.specs.Places.{Layout}
 use Rattle.tables.specs.Sectors.{sectorAt}
-use Rattle.tables.specs.Views.{viewOf, Parent, walk, next, cov, overOf}
+use Rattle.tables.specs.Views.{viewOf, Parent, walk, next, cov, claimsOf, overOf}
 use Rattle.tables.specs.Rules.R5.{FileChain}
 use Rattle.tables.specs.Rules.R6.{R6}
 use Rattle.tables.proofs.FrameLaws.{table-kept}
@@ -153,10 +153,10 @@ module _ (p : Places) (b : List ℕ) (i : ℕ) (lay : Layout p (length b)) (lo :
   pub table-link : linkOf (tableAt p (freeTable p b i) i) ≡ linkOf (tableAt p b i)
   table-link = ap linkOf table-here ∙ blank-link (tableAt p b i) (length-table p b i lay lo hi)
 
-  table-bits : (s : ℕ) → s < 1024 * p .zones → overOf i (tableAt p b i) s ≤ sectorAt p b s → sectorAt p (freeTable p b i) s + overOf i (tableAt p b i) s ≡ sectorAt p b s
-  unfolding overOf
+  table-bits : (s : ℕ) → s < 1024 * p .zones → claimsOf i (tableAt p b i) s ≤ sectorAt p b s → sectorAt p (freeTable p b i) s + claimsOf i (tableAt p b i) s ≡ sectorAt p b s
+  unfolding claimsOf overOf
   table-bits s l h =
-      ap (λ (x : ℕ). x + overOf i (tableAt p b i) s) (bit-kept (p .sectortable) s kept-zeros (inl (omega arith)))
+      ap (λ (x : ℕ). x + claimsOf i (tableAt p b i) s) (bit-kept (p .sectortable) s kept-zeros (inl (omega arith)))
       ∙ clear-bits p b i (tableAt p b i) within lay s (slotsOf i (tableAt p b i)) (omega arith) h
 
 -- ---- the first n tables of a file that has m + 1
@@ -214,15 +214,15 @@ module _ (p : Places) (b : List ℕ) (lay : Layout p (length b)) (r6 : R6 (viewO
   tables-blanked (suc n) l = blanked-more n l (freeFirst p b f n) (tables-blanked n (omega arith))
 
   -- their sectors are cleared, if they are set and none is under two pointers
-  pub tables-bits : (s : ℕ) → s < 1024 * p .zones → (n : ℕ) → n ≤ suc m → sumTo n (λ k. overOf (nth k) (tableAt p b (nth k)) s) ≤ sectorAt p b s
-      → sectorAt p (freeFirst p b f n) s + sumTo n (λ k. overOf (nth k) (tableAt p b (nth k)) s) ≡ sectorAt p b s
+  pub tables-bits : (s : ℕ) → s < 1024 * p .zones → (n : ℕ) → n ≤ suc m → sumTo n (λ k. claimsOf (nth k) (tableAt p b (nth k)) s) ≤ sectorAt p b s
+      → sectorAt p (freeFirst p b f n) s + sumTo n (λ k. claimsOf (nth k) (tableAt p b (nth k)) s) ≡ sectorAt p b s
   unfolding freeFirst sumTo
   tables-bits s ls zero l set = omega arith
   tables-bits s ls (suc n) l set =
       let x = freeFirst p b f n in
       let h = tables-blanked n (omega arith) in
       let o = tables-bits s ls n (omega arith) (omega arith) in
-      let e : overOf (nth n) (tableAt p x (nth n)) s ≡ overOf (nth n) (tableAt p b (nth n)) s = ap (λ (t : List ℕ). overOf (nth n) t s) (blanked-table n l x h) in
+      let e : claimsOf (nth n) (tableAt p x (nth n)) s ≡ claimsOf (nth n) (tableAt p b (nth n)) s = ap (λ (t : List ℕ). claimsOf (nth n) t s) (blanked-table n l x h) in
       omega (arith, table-bits p x (nth n) (lay' n l x h) (inside n l .0) (inside n l .1) (blanked-within n l x h) s ls (omega (arith, e, o)))
 
   -- all of them

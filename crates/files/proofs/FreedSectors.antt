@@ -10,25 +10,25 @@ use lib.Dec.{eqb}
 use Rattle.field.specs.Sum.{sumTo}
 use Rattle.field.proofs.Sums.{sum-same, sum-add, sum-zero}
 use Rattle.tables.specs.Kinds.{firstOf}
-use Rattle.tables.specs.Blocks.{Typed, blockOf, Whole}
+use Rattle.tables.specs.Blocks.{ZoneType, blockOf, Whole}
 use Rattle.tables.specs.Indexes.{wordOf, slotsOf, startOf, countOf, fileOf}
-use Rattle.tables.specs.Views.{View, onlyIf, tally, overOf, pointersOver}
+use Rattle.tables.specs.Views.{View, onlyIf, tally, claimsOf, overOf, claimsOver}
 use Rattle.tables.specs.Rules.R2.{ZoneBits, Untyped, R2}
 use Rattle.tables.specs.Rules.R3.{R3}
 use Rattle.tables.specs.Rules.R6.{Shape, R6}
-use Rattle.tables.specs.Rules.R7.{R7}
+use Rattle.tables.specs.Rules.R7.{Owned}
 use Rattle.tables.proofs.BlockLaws.{block-of, block-in}
 use Rattle.tables.proofs.IndexLaws.{slots-free}
-use Rattle.tables.proofs.PointerLaws.{cov-none, under-some, under-inside, over-none}
+use Rattle.tables.proofs.PointerLaws.{cov-none, claimed-under, under-inside, over-none}
 use Rattle.allocation.proofs.ChangeLaws.{run-zones}
 use Rattle.files.specs.Release.{gone, freedBlocks}
 use Rattle.files.specs.Freed.{Freed, Short}
 use Rattle.files.proofs.FreedTables.{freed-word, tally-gone}
 
 -- the pointers of a table lie over whole blocks
-over-whole : (v : View) (i : ℕ) → Shape v i (v .table i) → (z : ℕ) → z < v .zones → 2 ≤ z → Typed (v .zone z .ztype)
-    → Whole (overOf i (v .table i)) (firstOf z) (blockOf (v .zone z .ztype))
-unfolding overOf
+over-whole : (v : View) (i : ℕ) → Shape v i (v .table i) → (z : ℕ) → z < v .zones → 2 ≤ z → ZoneType (v .zone z .ztype)
+    → Whole (claimsOf i (v .table i)) (firstOf z) (blockOf (v .zone z .ztype))
+unfolding claimsOf overOf
 over-whole v i shape z l lo typed k lk j lj =
     sum-same (slotsOf i (v .table i)) _ _ (λ n ln. elim (decLt 0 (startOf i (v .table i) n + countOf i (v .table i) n)) [
       | yes u ↦ shape .used n ln u .whole z l lo typed k lk j lj
@@ -47,14 +47,14 @@ blank-shape v i t lo e = let s = slots-free i t e in record {
 module _ (v v' : View) (f : ℕ) (h : Freed v v' f) where
   -- ---- R7
 
-  pointers-gone : (s : ℕ) → pointersOver v' s + gone v f s ≡ pointersOver v s
-  unfolding pointersOver gone
-  pointers-gone s = tally-gone v v' f h (λ i t. overOf i t s) (λ j t lo e. over-none j t s e)
+  pointers-gone : (s : ℕ) → claimsOver v' s + gone v f s ≡ claimsOver v s
+  unfolding claimsOver gone
+  pointers-gone s = tally-gone v v' f h (λ i t. claimsOf i t s) (λ j t lo e. over-none j t s e)
 
-  pub freed-R7 : R7 v → R7 v'
-  freed-R7 r s l lo =
-      let l' : s < 1024 * (v .zones - 1) = rw (h .zones) at l in
-      omega (arith, pointers-gone s, h .bit s (omega arith), r s l' lo)
+  pub freed-owned : {extra : ℕ → ℕ} → Owned v extra → Owned v' extra
+  freed-owned r = record {
+    count = λ s l lo. (let l' : s < 1024 * (v .zones - 1) = rw (h .zones) at l in omega (arith, pointers-gone s, h .bit s (omega arith), r .count s l' lo));
+  }
 
   -- ---- R6: zone entries stay
 
@@ -70,12 +70,12 @@ module _ (v v' : View) (f : ℕ) (h : Freed v v' f) where
   module _ (r6 : R6 v) where
     -- ---- blocks stay whole
 
-    gone-whole : (z : ℕ) → z < v .zones → 2 ≤ z → Typed (v .zone z .ztype) → Whole (gone v f) (firstOf z) (blockOf (v .zone z .ztype))
+    gone-whole : (z : ℕ) → z < v .zones → 2 ≤ z → ZoneType (v .zone z .ztype) → Whole (gone v f) (firstOf z) (blockOf (v .zone z .ztype))
     unfolding gone tally
     gone-whole z l lo typed k lk j lj =
         sum-same (v .indexes) _ _ (λ n ln. ap (onlyIf (eqb (fileOf (n + 1) (v .table (n + 1))) f)) (over-whole v (n + 1) (r6 (n + 1) (omega arith) (omega arith)) z l lo typed k lk j lj))
 
-    blocks-left : R3 v → (z : ℕ) → z < v' .zones → 2 ≤ z → Typed (v' .zone z .ztype) → Whole (v' .bit) (firstOf z) (blockOf (v' .zone z .ztype))
+    blocks-left : R3 v → (z : ℕ) → z < v' .zones → 2 ≤ z → ZoneType (v' .zone z .ztype) → Whole (v' .bit) (firstOf z) (blockOf (v' .zone z .ztype))
     blocks-left r z l lo =
         let l' : z < v .zones = rw (h .zones) at l in
         rw (h .zone z (omega arith) (omega arith)) (λ typed k lk j lj. (let size = blockOf (v .zone z .ztype) in
@@ -88,7 +88,7 @@ module _ (v v' : View) (f : ℕ) (h : Freed v v' f) where
       abbrev size : ℕ
       size = blockOf (v .zone z .ztype)
 
-      blocks-more : R3 v → Typed (v .zone z .ztype) → sumTo (1024 / size) (λ k. 1 - v' .bit (firstOf z + k * size)) ≡ v .zone z .free + freedBlocks v f z
+      blocks-more : R3 v → ZoneType (v .zone z .ztype) → sumTo (1024 / size) (λ k. 1 - v' .bit (firstOf z + k * size)) ≡ v .zone z .free + freedBlocks v f z
       unfolding freedBlocks
       blocks-more r typed =
           sum-same (1024 / size) _ _ (λ k lk. (let fits = block-in k size (block-of _ typed) lk in omega (arith, h .bit (firstOf z + k * size) (omega arith), small (firstOf z + k * size))))
@@ -104,7 +104,7 @@ module _ (v v' : View) (f : ℕ) (h : Freed v v' f) where
           let e : k * size ≡ k = ap (λ (x : ℕ). k * x) one ∙ mul-one k in
           omega (arith, u .clear (k * size) (omega arith), h .bit (firstOf z + k * size) (omega arith))
 
-      none-freed : R2 v → (Typed (v .zone z .ztype) → ⊥) → freedBlocks v f z ≡ 0
+      none-freed : R2 v → (ZoneType (v .zone z .ztype) → ⊥) → freedBlocks v f z ≡ 0
       unfolding freedBlocks
       none-freed r out = ⊎-elim (λ u. sum-zero (1024 / size) _ (none-clear u)) (λ u. absurd (out (u .typed))) (r z (omega arith) (omega arith) .other lo l)
 
@@ -117,11 +117,11 @@ module _ (v v' : View) (f : ℕ) (h : Freed v v' f) where
 
     -- ---- R2: no pointer lies over zones 1 and Z
 
-    module _ (r7 : R7 v) (small : (s : ℕ) → v .bit s < 2) where
+    module _ {extra : ℕ → ℕ} (r7 : Owned v extra) (small : (s : ℕ) → v .bit s < 2) where
       gone-none : (s : ℕ) → (s < 1024) ⊎ (1024 * (v .zones - 1) ≤ s) → gone v f s ≡ 0
       gone-none s out =
-          elim (decLt 0 (pointersOver v s)) [
-            | yes p ↦ (let u = under-some v s p in let inside = under-inside v r6 r7 small (u .0) (u .1) s (u .2) in absurd (⊎-elim (λ o. omega (arith, inside .0)) (λ o. omega (arith, inside .1)) out))
+          elim (decLt 0 (claimsOver v s)) [
+            | yes p ↦ (let u = claimed-under v s p in let inside = under-inside v r6 r7 small (u .0) (u .1) s (u .2) in absurd (⊎-elim (λ o. omega (arith, inside .0)) (λ o. omega (arith, inside .1)) out))
             | no n ↦ omega (arith, pointers-gone s)
           ]
 

@@ -18,16 +18,16 @@ use Rattle.field.proofs.PartLaws.{kept-over}
 use Rattle.tables.specs.declared.places.Places.{Places}
 use Rattle.tables.specs.Indexes.{tablePlace, tableAt, linkOf, putLink, fileOf}
 use Rattle.tables.specs.Places.{Layout}
-use Rattle.tables.specs.Lawful.{Lawful}
+use Rattle.tables.specs.Lawful.{LawfulWith}
 use Rattle.tables.specs.Sector1.{activeOf, deletedOf, freeOf, systemOf, directoryOf, firstFreeOf, flagOf}
 use Rattle.tables.specs.Sectors.{sectorAt}
-use Rattle.tables.specs.Views.{View, viewOf, Parent, walk, next, tally, overOf, pointersOver}
+use Rattle.tables.specs.Views.{View, viewOf, Parent, walk, next, tally, claimsOf, claimsOver}
 use Rattle.tables.specs.Rules.R5.{FileChain}
 use Rattle.tables.proofs.ChoiceLaws.{sum-mono}
 use Rattle.tables.proofs.Sector1CountLaws.{only-le}
 use Rattle.tables.proofs.FrameLaws.{sector1-zone, sector1-bit, sector1-table, sector1-tails}
 use Rattle.tables.proofs.IndexLaws.{length-table}
-use Rattle.tables.proofs.PointerLaws.{under-some, under-inside}
+use Rattle.tables.proofs.PointerLaws.{claimed-under, under-inside}
 use Rattle.tables.proofs.ZoneEntryLaws.{zone-kept}
 use Rattle.allocation.specs.Last.{lastTable}
 use Rattle.allocation.specs.Lengthened.{Quiet}
@@ -90,7 +90,7 @@ module _ (b : List ℕ) (f n : ℕ) (date : List ℕ) (six : length date ≡ 6) 
 
 -- ---- the file's tables
 
-module _ (p : Places) (b : List ℕ) (lay : Layout p (length b)) (lawful : Lawful p b) (f : ℕ) (parent : Parent (viewOf p b) f) where
+module _ (p : Places) (b : List ℕ) (lay : Layout p (length b)) {extra : ℕ → ℕ} (lawful : LawfulWith extra p b) (f : ℕ) (parent : Parent (viewOf p b) f) where
   abbrev v : View
   v = viewOf p b
 
@@ -107,21 +107,21 @@ module _ (p : Places) (b : List ℕ) (lay : Layout p (length b)) (lawful : Lawfu
   inside = tables-in v f m parent chain
 
   -- R7: what its pointers lie over is set, and under no two of them
-  gone-is : (s : ℕ) → gone v f s ≡ sumTo (suc m) (λ k. overOf (table k) (tableAt p b (table k)) s)
+  gone-is : (s : ℕ) → gone v f s ≡ sumTo (suc m) (λ k. claimsOf (table k) (tableAt p b (table k)) s)
   unfolding gone
-  gone-is s = file-tally v (lawful .r4) (lawful .r5) (lay .few) f parent (λ i t. overOf i t s)
+  gone-is s = file-tally v (lawful .r4) (lawful .r5) (lay .few) f parent (λ i t. claimsOf i t s)
 
-  gone-le : (s : ℕ) → gone v f s ≤ pointersOver v s
-  unfolding gone pointersOver tally
-  gone-le s = sum-mono (p .indexes) _ _ (λ k l. only-le (eqb (fileOf (k + 1) (tableAt p b (k + 1))) f) (overOf (k + 1) (tableAt p b (k + 1)) s))
+  gone-le : (s : ℕ) → gone v f s ≤ claimsOver v s
+  unfolding gone claimsOver tally
+  gone-le s = sum-mono (p .indexes) _ _ (λ k l. only-le (eqb (fileOf (k + 1) (tableAt p b (k + 1))) f) (claimsOf (k + 1) (tableAt p b (k + 1)) s))
 
   gone-set : (s : ℕ) → gone v f s ≤ sectorAt p b s
   gone-set s =
       elim (decLt 0 (gone v f s)) [
         | yes some ↦
-            let u = under-some v s (omega (arith, gone-le s)) in
+            let u = claimed-under v s (omega (arith, gone-le s)) in
             let w = under-inside v (lawful .r6) (lawful .r7) (λ n. bitAt-lt b (p .sectortable) n) (u .0) (u .1) s (u .2) in
-            omega (arith, gone-le s, lawful .r7 s (w .1) (w .0))
+            omega (arith, gone-le s, lawful .r7 .count s (w .1) (w .0))
         | no none ↦ omega arith
       ]
 

@@ -16,16 +16,16 @@ use Rattle.allocation.specs.declared.tail.Tail.{Tail}
 use Rattle.allocation.specs.declared.tail.Pushed.{Pushed}
 use Rattle.allocation.specs.declared.tail.Pushed.the-variants.{Joined, Beside, Further}
 use Rattle.allocation.specs.declared.growth.Cursor.{Cursor}
-use Rattle.allocation.specs.Choice.{nextBlock, blockStart, putBlock, inOrder, inTurn}
+use Rattle.allocation.specs.Choice.{choose, blockStart, putBlock, inOrder, inTurn}
 use Rattle.allocation.specs.NextPointer.{noPointer, placeOf, push, tailOf, longer, beside, further}
 use Rattle.allocation.specs.Last.{cursorOf}
 use Rattle.allocation.specs.NewTables.{New}
 use Rattle.allocation.specs.Growth.{Growth, pointed, addBlock}
 use Rattle.allocation.specs.Ready.{Ready}
 use Rattle.allocation.specs.Steps.{Choosable, SameFiles, Written, Extended, Made}
-use Rattle.allocation.specs.Held.{Held, Ends, nothing}
+use Rattle.allocation.specs.Held.{Held, Ends}
 use Rattle.allocation.specs.Lengthened.{Lengthened}
-use Rattle.allocation.specs.MadeFiles.{Provided, started, created, putChange, grown}
+use Rattle.allocation.specs.MadeFiles.{ProvidedWith, started, created, putChange, grown}
 use Rattle.allocation.proofs.TurnLaws.{turn-none, turn-step}
 use Rattle.allocation.proofs.PlanLaws.{push-cases, push-from, stock-free, stock-taken}
 use Rattle.allocation.proofs.TakenLaws.{length-putBlock, block-files}
@@ -58,7 +58,7 @@ Owned p f g = fileOf (g .cursor .table .0) (tableAt p (g .books) (g .cursor .tab
 
 module _ (p : Places) (f t : ℕ) (ts : List ℕ) (g : Growth) (ready : Ready p f g (t ∷ ts)) where
   abbrev k : Found
-  k = nextBlock (viewOf p (g .books)) t
+  k = choose (viewOf p (g .books)) (g .cursor .tail) t
 
   abbrev b : List ℕ
   b = putBlock p (g .books) t k
@@ -76,7 +76,7 @@ module _ (p : Places) (f t : ℕ) (ts : List ℕ) (g : Growth) (ready : Ready p 
   n = blockOf t
 
   can : Choosable (viewOf p (g .books)) t k
-  can = stock-free p (g .books) t ts (ready .layout) (ready .stocked)
+  can = stock-free p (g .books) (g .cursor .tail) t ts (ready .layout) (ready .stocked)
 
   files : SameFiles (viewOf p (g .books)) v
   files = block-files p (g .books) t k (ready .layout) (can .proper)
@@ -119,7 +119,7 @@ module _ (p : Places) (f t : ℕ) (ts : List ℕ) (g : Growth) (ready : Ready p 
     joined : c .tail .last .start .0 + c .tail .last .count ≡ s → Taking p f b c (Joined (longer (c .tail) n)) ts → FileFollows v (viewOf p (pointed p f b c (Joined (longer (c .tail) n)) .books)) f
     joined e h =
         let l = longer (g .cursor .tail) n in
-        let run = new-run can (stock-taken p (g .books) t ts (ready .layout) (ready .stocked)) in
+        let run = new-run can (stock-taken p (g .books) (g .cursor .tail) t ts (ready .layout) (ready .stocked)) in
         let some = end-some v f c block-ends (omega (arith, run .low)) in
         rw (pointed-joined p f b c l, here-is p f b c l) (joined-follows v _ f c (ready .layout .few) sized block-ends n some (here-written p f b c (Joined l) ts h))
 
@@ -152,7 +152,7 @@ adds-untouched p f (t ∷ ts) g ready own =
     rw (turn-step (addBlock p f) t ts g) (untouched-trans (viewOf p (g .books)) (viewOf p (addBlock p f t g .books)) _ f (one .0)
     (adds-untouched p f ts (addBlock p f t g) (ready-step p f g t ts ready) (one .1)))
 
-adds-follow : (p : Places) (f : ℕ) (ts : List ℕ) (g : Growth) → Ready p f g ts → Held (viewOf p (g .books)) f nothing → Ends (viewOf p (g .books)) f (g .cursor)
+adds-follow : (p : Places) (f : ℕ) (ts : List ℕ) (g : Growth) {extra : ℕ → ℕ} → Ready p f g ts → Held (viewOf p (g .books)) f extra → Ends (viewOf p (g .books)) f (g .cursor)
     → FileFollows (viewOf p (g .books)) (viewOf p (inTurn (addBlock p f) ts g .books)) f
 adds-follow p f [] g ready held ends = rw (turn-none (addBlock p f) g) (file-stays (viewOf p (g .books)) (viewOf p (g .books)) f (λ i lo hi. refl))
 adds-follow p f (t ∷ ts) g ready held ends =
@@ -162,7 +162,7 @@ adds-follow p f (t ∷ ts) g ready held ends =
 
 -- ---- a file that grows: its blocks, then its length and the dates, which stand in its parent and in sector 1
 
-module _ (p : Places) (b : List ℕ) (f : ℕ) (counts : List ℕ) (long : ℕ) (date : List ℕ) (has : Provided p b (cursorOf p b f .tail) counts)
+module _ (p : Places) (b : List ℕ) (f : ℕ) (counts : List ℕ) (long : ℕ) (date : List ℕ) {extra : ℕ → ℕ} (has : ProvidedWith extra p b (cursorOf p b f .tail) counts)
     (parent : Parent (viewOf p b) f) (six : length date ≡ 6) where
   abbrev begun : Growth
   begun = record { books = b; cursor = cursorOf p b f }
@@ -176,7 +176,7 @@ module _ (p : Places) (b : List ℕ) (f : ℕ) (counts : List ℕ) (long : ℕ) 
   ends : Ends (viewOf p b) f (cursorOf p b f)
   ends = cursor-ends p b f (has .lawful) parent
 
-  lengthened : Lengthened p f begun grew (inOrder counts)
+  lengthened : Lengthened extra p f begun grew (inOrder counts)
   lengthened = grown-lengthened p b f counts has parent
 
   restated : Restated (viewOf p (grew .books)) (viewOf p (putChange p (grew .books) f long date)) f
@@ -200,7 +200,7 @@ module _ (p : Places) (b : List ℕ) (f : ℕ) (counts : List ℕ) (long : ℕ) 
 
 -- ---- a new file, which is no file that was there
 
-module _ (p : Places) (b : List ℕ) (n : New) (counts : List ℕ) (has : Provided p b noPointer counts) (name : length (n .name) ≤ 24) (six : length (n .date) ≡ 6)
+module _ (p : Places) (b : List ℕ) (n : New) (counts : List ℕ) {extra : ℕ → ℕ} (has : ProvidedWith extra p b noPointer counts) (name : length (n .name) ≤ 24) (six : length (n .date) ≡ 6)
     (weights : n .attribute < 128) where
   head : Free (viewOf p b) (firstFreeOf b)
   head = head-free (viewOf p b) (has .lawful .r4) (λ z. omega (arith, provided-head p b counts has .low))

@@ -14,7 +14,7 @@ use Rattle.field.proofs.NumberLaws.{getD-part}
 use Rattle.field.proofs.PartLaws.{length-over, kept-over, over-part}
 use Rattle.tables.specs.declared.places.Places.{Places}
 use Rattle.tables.specs.Places.{Layout}
-use Rattle.tables.specs.Lawful.{Lawful}
+use Rattle.tables.specs.Lawful.{LawfulWith}
 use Rattle.tables.specs.Views.{viewOf}
 use Rattle.files.specs.Spots.{kthSector}
 use Rattle.files.specs.Moves.{exchanged, moved, bodyPlace, sectorContent, bufferSector, sectorsLaid, filled, fetched, Movable}
@@ -117,7 +117,7 @@ sectors-same s t n hs ht same =
 
 -- ---- the file's sectors in the body
 
-module _ (p : Places) (b : List ℕ) (lay : Layout p (length b)) (lawful : Lawful p b) (f k n room body : ℕ) (m : Movable (viewOf p b) f k n room body) where
+module _ (p : Places) (b : List ℕ) (lay : Layout p (length b)) {extra : ℕ → ℕ} (lawful : LawfulWith extra p b) (f k n room body : ℕ) (m : Movable (viewOf p b) f k n room body) where
   pub sector-inside : (i : ℕ) → i < n → (1024 ≤ kthSector (viewOf p b) f (k + i)) × (kthSector (viewOf p b) f (k + i) < 1024 * (p .zones - 1))
   sector-inside i l = kth-inside p b lay lawful f (m .parent) (k + i) (omega (arith, m .within))
 
@@ -130,7 +130,7 @@ module _ (p : Places) (b : List ℕ) (lay : Layout p (length b)) (lawful : Lawfu
       (omega (arith, sector-inside i l .0, sector-inside j h .0)) in
       omega (arith, q .1)
 
-module _ (p : Places) (b : List ℕ) (lay : Layout p (length b)) (lawful : Lawful p b) (f k n : ℕ) (x : Bool) (input body : List ℕ)
+module _ (p : Places) (b : List ℕ) (lay : Layout p (length b)) {extra : ℕ → ℕ} (lawful : LawfulWith extra p b) (f k n : ℕ) (x : Bool) (input body : List ℕ)
     (m : Movable (viewOf p b) f k n (length input) (length body)) where
   abbrev place : ℕ → ℕ
   place i = kthSector (viewOf p b) f (k + i) - 1024
@@ -162,7 +162,7 @@ module _ (p : Places) (b : List ℕ) (lay : Layout p (length b)) (lawful : Lawfu
       (λ i l e. out i l (omega (arith, e, sector-inside p b lay lawful f k n (length input) (length body) m i l .0)))
 
 -- the output holds the sectors' bytes, one after the other, and is as it was past them
-module _ (p : Places) (b : List ℕ) (lay : Layout p (length b)) (lawful : Lawful p b) (f k n : ℕ) (x : Bool) (body out : List ℕ)
+module _ (p : Places) (b : List ℕ) (lay : Layout p (length b)) {extra : ℕ → ℕ} (lawful : LawfulWith extra p b) (f k n : ℕ) (x : Bool) (body out : List ℕ)
     (m : Movable (viewOf p b) f k n (length out) (length body)) where
   abbrev taken : ℕ → List ℕ
   taken i = moved x (sectorContent body (kthSector (viewOf p b) f (k + i)))
@@ -193,7 +193,7 @@ module _ (p : Places) (b : List ℕ) (lay : Layout p (length b)) (lawful : Lawfu
       past (suc i) h = kept-laid (λ i. i) taken out n whole-out fits-out i (omega arith) .out j (inr (omega arith)) ∙ past i (omega arith)
 
 -- "a read after a write gives the bytes back"
-pub read-back : (p : Places) (b : List ℕ) → Layout p (length b) → Lawful p b → (f k n : ℕ) (x : Bool) (input body out : List ℕ)
+pub read-back : (p : Places) (b : List ℕ) {extra : ℕ → ℕ} → Layout p (length b) → LawfulWith extra p b → (f k n : ℕ) (x : Bool) (input body out : List ℕ)
     → Movable (viewOf p b) f k n (length input) (length body) → 1024 * n ≤ length out
     → take (1024 * n) (fetched (viewOf p b) f k x (filled (viewOf p b) f k x input body n) out n) ≡ take (1024 * n) input
 read-back p b lay lawful f k n x input body out m room =

@@ -1,6 +1,7 @@
 -- Freed blocks counted in the zone entries: each way out of the functions, and how the loop goes on.
 use mathlib.Core.Path.{_≡_, refl, sym, ap, _∙_}
 use mathlib.Core.Logic.{inr}
+use mathlib.Core.Bool.{Bool, true, false, not}
 use mathlib.Core.List.{List}
 use Prim.Native.Nat.{ℕ, suc, _+_, _-_, _*_, _/_, _≤_, _<_}
 use native.Mathlib.Nat.{div-eq-of-eq-mul-left}
@@ -9,12 +10,14 @@ use native.Mathlib.Omega.{arith}
 use lib.ListN.{getD, length}
 use borrow.Author.Tests.{eq-eqb, ne-eqb, lt-ltb}
 use Rattle.field.specs.Kept.{Kept}
+use Rattle.field.specs.Says.{Says}
+use Rattle.field.proofs.Tests.{passed, refused}
 use Rattle.field.specs.Runs.{countBits}
 use Rattle.field.proofs.BitLaws.{bit-kept, bitAt-lt}
 use Rattle.field.proofs.NumberLaws.{u16-lt}
 use Rattle.tables.specs.declared.places.Places.{Places}
 use Rattle.tables.specs.declared.zone.ZoneEntry.{ZoneEntry}
-use Rattle.tables.specs.Blocks.{blockOf, Block, perZone}
+use Rattle.tables.specs.Blocks.{ZoneType, blockOf, Block, perZone}
 use Rattle.tables.specs.Kinds.{firstOf}
 use Rattle.tables.specs.Places.{Layout}
 use Rattle.tables.specs.Sectors.{sectorAt}
@@ -60,16 +63,13 @@ module _ (p : Places) (b : List ℕ) (z : ℕ) (e : ZoneEntry) (is : e ≡ zoneA
   unfolding recountZone
   zone-none n h = rw h
 
-  pub zone-low : e .ztype < 3 → (n : ℕ) → Short (viewOf p b) z n → b ≡ recountZone p b z n
-  zone-low l n h = zone-none n (h .other (rw (← is) (λ t. omega (arith, t .low))))
+  pub zone-other : (r : Bool) → Says r (ZoneType (e .ztype)) → not r ≡ true → (n : ℕ) → Short (viewOf p b) z n → b ≡ recountZone p b z n
+  zone-other r s out n h = zone-none n (h .other (rw (← is) (refused r s out)))
 
-  pub zone-high : 8 < e .ztype → (n : ℕ) → Short (viewOf p b) z n → b ≡ recountZone p b z n
-  zone-high l n h = zone-none n (h .other (rw (← is) (λ t. omega (arith, t .high))))
-
-  module _ (low : 3 ≤ e .ztype) (high : e .ztype ≤ 8) (clear : ℕ)
+  module _ (r : Bool) (typed : Says r (ZoneType (e .ztype))) (of : not r ≡ false) (clear : ℕ)
       (are : (n : ℕ) → Blocks (sectorAt p b) (firstOf z) (blockOf (e .ztype)) n → clear ≡ n) where
     all-clear : (n : ℕ) → Short (viewOf p b) z n → clear ≡ e .free + n
-    all-clear n h = are _ (rw (← is) at (h .typed) (record { low = low; high = high }))
+    all-clear n h = are _ (rw (← is) at (h .typed) (passed r typed of))
 
     pub zone-same : clear ≤ e .free → (n : ℕ) → Short (viewOf p b) z n → b ≡ recountZone p b z n
     zone-same l n h = zone-none n (omega (arith, all-clear n h))
@@ -77,16 +77,17 @@ module _ (p : Places) (b : List ℕ) (z : ℕ) (e : ZoneEntry) (is : e ≡ zoneA
     pub zone-more : e .free < clear → (x : ZoneEntry) → x ≡ recounted e (clear - e .free) → (y : List ℕ) → y ≡ putZone p b z (x .ztype) (x .free) (x .third)
         → (n : ℕ) → Short (viewOf p b) z n → y ≡ recountZone p b z n
     unfolding recountZone
-    zone-more l x of y h n short =
+    zone-more l x ex y h n short =
         let c = all-clear n short in
         let q : clear - e .free ≡ n = omega arith in
-        rw (← is, lt-ltb 0 n (omega arith), ← q, ← of) h
+        rw (← is, lt-ltb 0 n (omega arith), ← q, ← ex) h
 
 -- its three fields are of two bytes
-pub zone-small : (p : Places) (b : List ℕ) (z : ℕ) (e : ZoneEntry) → e ≡ zoneAt p b z → ((j : ℕ) → getD b j 0 < 256) → (n : ℕ) → e .ztype ≤ 8 → e .free + n ≤ 1024
+pub zone-small : (p : Places) (b : List ℕ) (z : ℕ) (e : ZoneEntry) → e ≡ zoneAt p b z → ((j : ℕ) → getD b j 0 < 256) → (n : ℕ) → ZoneType (e .ztype) → e .free + n ≤ 1024
     → (x : ZoneEntry) → x ≡ recounted e n → (x .ztype < 65536) × (x .free < 65536) × (x .third < 65536)
 unfolding zoneAt
-zone-small p b z e is small n high few x of =
+zone-small p b z e is small n typed few x of =
+    let high = typed .high in
     let own : e .third < 65536 = rw is (u16-lt b _ small) in
     rw of (elim (ℕ-discrete (e .free + n) (perZone (e .ztype))) [
       | yes h ↦ rw (← recounted-open e n _ _ refl refl h) (omega arith, omega arith, omega arith)

@@ -1,5 +1,5 @@
 -- With the freed blocks counted in the zone entries all rules hold.
-use mathlib.Core.Path.{_≡_, refl, sym, _∙_}
+use mathlib.Core.Path.{_≡_, refl, _∙_}
 use mathlib.Core.Logic.{_⊎_, inl, inr, ⊎-elim}
 use Prim.Native.Nat.{ℕ, _+_, _-_, _*_, _≤_, _<_}
 use native.Mathlib.Decide.{ℕ-discrete, decLt}
@@ -8,13 +8,13 @@ use borrow.Author.Tests.{eq-eqb, ne-eqb}
 use Rattle.tables.specs.declared.zone.ZoneEntry.{ZoneEntry}
 use Rattle.tables.specs.Kinds.{zoneOf, firstOf}
 use Rattle.tables.specs.Blocks.{blockOf, perZone}
-use Rattle.tables.specs.Views.{View, Parent, overOf, pointersOver, Under}
+use Rattle.tables.specs.Views.{View, Parent, claimsOf, claimsOver, Under}
 use Rattle.tables.specs.Rules.R2.{Reads, ZoneBits, Untyped, InUse, R2}
 use Rattle.tables.specs.Rules.R3.{R3}
 use Rattle.tables.specs.Rules.R4.{R4}
 use Rattle.tables.specs.Rules.R5.{R5}
 use Rattle.tables.specs.Rules.R6.{R6}
-use Rattle.tables.specs.Rules.R7.{R7}
+use Rattle.tables.specs.Rules.R7.{Owned}
 use Rattle.tables.specs.Rules.R8.{R8}
 use Rattle.tables.specs.Rules.R9.{R9}
 use Rattle.tables.proofs.BlockLaws.{block-of}
@@ -27,14 +27,14 @@ use Rattle.allocation.proofs.TakenHeld.{type-kept, run-kept, files-R4, files-R5
 use Rattle.files.specs.Release.{recounted}
 use Rattle.files.specs.Freed.{Uncounted, Recounted}
 
--- rules R2 to R9
-pub record Rules (v : View) : Type 0 where
+-- rules R2 to R9, with `extra` set besides
+pub record Rules (extra : ℕ → ℕ) (v : View) : Type 0 where
   pub r2 : R2 v
   pub r3 : R3 v
   pub r4 : R4 v
   pub r5 : R5 v
   pub r6 : R6 v
-  pub r7 : R7 v
+  pub r7 : Owned v extra
   pub r8 : R8 v
   pub r9 : R9 v
 
@@ -55,7 +55,7 @@ recounted-is e n =
       | no nq ↦ inr (rw (ne-eqb (e .free + n) (perZone (e .ztype)) nq) (record { ztype = refl; free = refl; third = refl }))
     ]
 
-module _ (v v' : View) (freed : ℕ → ℕ) (small : (s : ℕ) → v .bit s < 2) (u : Uncounted v freed) (h : Recounted v v' freed) where
+module _ (v v' : View) (freed : ℕ → ℕ) (small : (s : ℕ) → v .bit s < 2) {extra : ℕ → ℕ} (u : Uncounted extra v freed) (h : Recounted v v' freed) where
   -- ---- zones
 
   -- a zone reads (0,0,0) and is clear, or keeps its type
@@ -119,11 +119,11 @@ module _ (v v' : View) (freed : ℕ → ℕ) (small : (s : ℕ) → v .bit s < 2
         header = o .header;
       })
 
-  now-R7 : R7 v'
-  unfolding pointersOver
-  now-R7 s l lo =
-      let l' : s < 1024 * (v .zones - 1) = rw (h .zones) at l in
-      files-tally (h .files) (λ i t. overOf i t s) ∙ u .r7 s l' lo ∙ sym (h .bit s (omega arith))
+  now-owned : Owned v' extra
+  unfolding claimsOver
+  now-owned = record {
+    count = λ s l lo. (let l' : s < 1024 * (v .zones - 1) = rw (h .zones) at l in omega (arith, files-tally (h .files) (λ i t. claimsOf i t s), u .r7 .count s l' lo, h .bit s (omega arith)));
+  }
 
   -- ---- files
 
@@ -139,14 +139,14 @@ module _ (v v' : View) (freed : ℕ → ℕ) (small : (s : ℕ) → v .bit s < 2
       (λ i j s of w. (let y = files-under (h .files) i j s w in (rw (h .files .table i (y .low) (y .high)) at of, y)))
       (files-sectors (h .files) p) (u .r8 p (omega arith) lo (o .word))
 
-  pub recounted-rules : Rules v'
+  pub recounted-rules : Rules extra v'
   recounted-rules = record {
     r2 = now-R2;
     r3 = now-R3;
     r4 = files-R4 (h .files) (u .r4);
     r5 = files-R5 (h .files) (u .r5);
     r6 = now-R6;
-    r7 = now-R7;
+    r7 = now-owned;
     r8 = now-R8;
     r9 = files-R9 (h .files) (u .r9);
   }

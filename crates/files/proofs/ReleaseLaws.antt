@@ -15,7 +15,7 @@ use Rattle.field.proofs.Sums.{sum-le, sum-part}
 use Rattle.tables.specs.declared.index.Pointer.{Pointer}
 use Rattle.tables.specs.declared.places.Places.{Places}
 use Rattle.tables.specs.Indexes.{tableAt, erased, wordOf, linkOf, putLink, attributeOf, slotsOf, baseOf, pointerAt, deletedBit}
-use Rattle.tables.specs.Lawful.{Lawful}
+use Rattle.tables.specs.Lawful.{LawfulWith}
 use Rattle.tables.specs.Places.{Layout}
 use Rattle.tables.specs.Sector1.{deletedOf, freeOf, firstFreeOf}
 use Rattle.tables.specs.Sectors.{putSectors}
@@ -117,7 +117,7 @@ pub record Freeing (p : Places) (b : List ℕ) (f : ℕ) (x : List ℕ) (i n : �
   pub len : length x ≡ length b
   pub here : walk (next (viewOf p b)) f n ≡ i
 
-pub freeing-none : (p : Places) (b : List ℕ) (f : ℕ) → Layout p (length b) → Lawful p b → Parent (viewOf p b) f → Freeing p b f b f 0
+pub freeing-none : (p : Places) (b : List ℕ) (f : ℕ) {extra : ℕ → ℕ} → Layout p (length b) → LawfulWith extra p b → Parent (viewOf p b) f → Freeing p b f b f 0
 unfolding freeFirst
 freeing-none p b f lay h parent =
     let ch = h .r5 .chain f parent in
@@ -189,7 +189,7 @@ module _ (p : Places) (b : List ℕ) (f : ℕ) (x : List ℕ) (i n : ℕ) (h : F
 
 -- ---- the file
 
-module _ (p : Places) (b : List ℕ) (lay : Layout p (length b)) (lawful : Lawful p b) (f : ℕ) (parent : Parent (viewOf p b) f) where
+module _ (p : Places) (b : List ℕ) (lay : Layout p (length b)) {extra : ℕ → ℕ} (lawful : LawfulWith extra p b) (f : ℕ) (parent : Parent (viewOf p b) f) where
   -- sector 1 counts a deleted file, and few enough free tables
   deleted-some : deletedBit (attributeOf (tableAt p b f)) ≡ 1 → 1 ≤ deletedOf b
   unfolding tally

@@ -7,7 +7,7 @@ use Rattle.field.proofs.BitLaws.{bitAt-lt}
 use Rattle.tables.specs.declared.places.Places.{Places}
 use Rattle.tables.specs.Indexes.{tableAt, attributeOf, deletedBit}
 use Rattle.tables.specs.Places.{Layout}
-use Rattle.tables.specs.Lawful.{Lawful}
+use Rattle.tables.specs.Lawful.{LawfulWith}
 use Rattle.tables.specs.Views.{viewOf, Parent}
 use Rattle.allocation.specs.Lengthened.{Quiet}
 use Rattle.allocation.proofs.HeldLawful.{quiet-R1, quiet-trans}
@@ -18,7 +18,7 @@ use Rattle.files.proofs.FreedRules.{freed-rules}
 use Rattle.files.proofs.RecountView.{recount-view, recount-quiet}
 use Rattle.files.proofs.RecountRules.{Rules, recounted-rules}
 
-module _ (p : Places) (b : List ℕ) (lay : Layout p (length b)) (lawful : Lawful p b) (f : ℕ) (parent : Parent (viewOf p b) f)
+module _ (p : Places) (b : List ℕ) (lay : Layout p (length b)) {extra : ℕ → ℕ} (lawful : LawfulWith extra p b) (f : ℕ) (parent : Parent (viewOf p b) f)
     (gone : deletedBit (attributeOf (tableAt p b f)) ≡ 1) (date : List ℕ) (six : length date ≡ 6) where
   freed-quietly : Quiet p b (freedFile p b f date)
   freed-quietly = freed-quiet p b lay lawful f parent date six
@@ -26,7 +26,7 @@ module _ (p : Places) (b : List ℕ) (lay : Layout p (length b)) (lawful : Lawfu
   freed-layout : Layout p (length (freedFile p b f date))
   freed-layout = rw (freed-quietly .len) lay
 
-  uncounted : Uncounted (viewOf p (freedFile p b f date)) (freedBlocks (viewOf p b) f)
+  uncounted : Uncounted extra (viewOf p (freedFile p b f date)) (freedBlocks (viewOf p b) f)
   uncounted =
       let l = lawful in
       freed-rules (viewOf p b) (viewOf p (freedFile p b f date)) f (lay .few) (bitAt-lt b (p .sectortable))
@@ -39,13 +39,13 @@ module _ (p : Places) (b : List ℕ) (lay : Layout p (length b)) (lawful : Lawfu
   unfolding released
   released-quiet = quiet-trans freed-quietly (recount-quiet p (freedFile p b f date) freed-layout (freedBlocks (viewOf p b) f))
 
-  rules : Rules (viewOf p (released p b f date))
+  rules : Rules extra (viewOf p (released p b f date))
   unfolding released
   rules =
       let b' = freedFile p b f date in
       recounted-rules (viewOf p b') (viewOf p (released p b f date)) (freedBlocks (viewOf p b) f) (bitAt-lt b' (p .sectortable)) uncounted (recount-view p b' freed-layout (freedBlocks (viewOf p b) f))
 
-  pub released-lawful : Lawful p (released p b f date)
+  pub released-lawful : LawfulWith extra p (released p b f date)
   released-lawful =
       let r = rules in
       record {

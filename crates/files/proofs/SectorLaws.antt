@@ -13,7 +13,7 @@ use Rattle.field.specs.Parts.{over}
 use Rattle.field.proofs.PartLaws.{copy-more, copy-end, length-over}
 use Rattle.tables.specs.declared.places.Places.{Places}
 use Rattle.tables.specs.Places.{Layout}
-use Rattle.tables.specs.Lawful.{Lawful}
+use Rattle.tables.specs.Lawful.{LawfulWith}
 use Rattle.tables.specs.Views.{View, viewOf}
 use Rattle.files.specs.declared.spot.Spot.{Spot}
 use Rattle.files.specs.Spots.{spotStart, onward, spotOf, kthSector}
@@ -100,7 +100,7 @@ module _ (v : View) (k n : ℕ) (done : ℕ → ℕ → List ℕ) (xs₀ : List 
     pub moving-end : n ≤ i → (f : ℕ) → c₀ ≡ spotOf v f k → xs ≡ done f n
     moving-end l f e = m .bytes f e ∙ ap (done f) (let q : i ≡ n = omega (arith, m .few) in q)
 
-module _ (p : Places) (b : List ℕ) (lay : Layout p (length b)) (lawful : Lawful p b) (f k n room body : ℕ) (m : Movable (viewOf p b) f k n room body)
+module _ (p : Places) (b : List ℕ) (lay : Layout p (length b)) {extra : ℕ → ℕ} (lawful : LawfulWith extra p b) (f k n room body : ℕ) (m : Movable (viewOf p b) f k n room body)
     (done : ℕ → ℕ → List ℕ) (xs₀ : List ℕ) (c₀ : Spot) (from : c₀ ≡ spotOf (viewOf p b) f k) (xs : List ℕ) (c : Spot) (i : ℕ) (h : Moving (viewOf p b) k n done xs₀ c₀ xs c i)
     (l : i < n) where
   pub moving-here : OnSector (viewOf p b) c

@@ -12,7 +12,7 @@ use Rattle.field.proofs.Sums.{sum-upto}
 use Rattle.tables.specs.declared.places.Places.{Places}
 use Rattle.tables.specs.Indexes.{wordOf, minus, slotsOf, startOf, countOf, sectorsOf, fileOf}
 use Rattle.tables.specs.Places.{Layout}
-use Rattle.tables.specs.Lawful.{Lawful}
+use Rattle.tables.specs.Lawful.{LawfulWith}
 use Rattle.tables.specs.Views.{View, viewOf, Begins, Parent, walk, next, Under}
 use Rattle.tables.specs.Rules.R4.{R4}
 use Rattle.tables.specs.Rules.R5.{FileChain, R5}
@@ -114,7 +114,7 @@ under-parent v r4 r5 few i j s u =
     begins : (w : ℕ) → wordOf (v .table i) ≡ w → Begins v i w
     begins w e = record { low = u .low; high = u .high; word = e }
 
-module _ (p : Places) (b : List ℕ) (lay : Layout p (length b)) (lawful : Lawful p b) where
+module _ (p : Places) (b : List ℕ) (lay : Layout p (length b)) {extra : ℕ → ℕ} (lawful : LawfulWith extra p b) where
   abbrev v : View
   v = viewOf p b
 

@@ -12,7 +12,7 @@ use Rattle.tables.specs.declared.index.Pointer.{Pointer}
 use Rattle.tables.specs.declared.kinds.Index.{Index}
 use Rattle.tables.specs.Indexes.{tableAt, linkOf, slotsOf, baseOf, pointerAt}
 use Rattle.tables.specs.Places.{Layout}
-use Rattle.tables.specs.Lawful.{Lawful}
+use Rattle.tables.specs.Lawful.{LawfulWith}
 use Rattle.tables.specs.Views.{View, viewOf, Parent}
 use Rattle.tables.specs.Rules.R8.{fileSectors}
 use Rattle.tables.proofs.IndexLaws.{slots-in}
@@ -108,7 +108,7 @@ seek-last v f k c rest n s l =
     let e : k - rest + rest ≡ k = omega (arith, s .within) in
     sym (spot-under v f (k - rest) c (s .spot) (s .first) rest (omega (arith, s .count))) ∙ ap (spotOf v f) e
 
-module _ (p : Places) (b : List ℕ) (f k : ℕ) (lay : Layout p (length b)) (lawful : Lawful p b) (parent : Parent (viewOf p b) f) (in' : k < fileSectors (viewOf p b) f) where
+module _ (p : Places) (b : List ℕ) (f k : ℕ) (lay : Layout p (length b)) {extra : ℕ → ℕ} (lawful : LawfulWith extra p b) (parent : Parent (viewOf p b) f) (in' : k < fileSectors (viewOf p b) f) where
   pub seek-begin : OnTable (viewOf p b) (spotAt f 0)
   unfolding spotOf
   seek-begin = spot-on p b lay lawful f parent 0 (omega arith) .table'

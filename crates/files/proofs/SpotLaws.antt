@@ -14,7 +14,7 @@ use Rattle.field.proofs.Sums.{sum-more, sum-cut, sum-zero}
 use Rattle.tables.specs.declared.places.Places.{Places}
 use Rattle.tables.specs.Indexes.{slotsOf, startOf, countOf, sectorsOf, Used}
 use Rattle.tables.specs.Places.{Layout}
-use Rattle.tables.specs.Lawful.{Lawful}
+use Rattle.tables.specs.Lawful.{LawfulWith}
 use Rattle.tables.specs.Views.{View, viewOf, Parent, Child, walk, next}
 use Rattle.tables.specs.Rules.R4.{R4}
 use Rattle.tables.specs.Rules.R5.{R5}
@@ -208,7 +208,7 @@ module _ (v : View) (r4 : R4 v) (r5 : R5 v) (r6 : R6 v) (few : v .indexes ≤ 40
   spot-reached zero l = reached-none
   spot-reached (suc k) l = reached-more k (spotOf v f k) (spot-reached k (omega arith)) l
 
-module _ (p : Places) (b : List ℕ) (lay : Layout p (length b)) (lawful : Lawful p b) (f : ℕ) (parent : Parent (viewOf p b) f) where
+module _ (p : Places) (b : List ℕ) (lay : Layout p (length b)) {extra : ℕ → ℕ} (lawful : LawfulWith extra p b) (f : ℕ) (parent : Parent (viewOf p b) f) where
   pub reached : (k : ℕ) → k < fileSectors (viewOf p b) f → Reached (viewOf p b) f (lawful .r5 .long f) k (spotOf (viewOf p b) f k)
   reached k l = spot-reached (viewOf p b) (lawful .r4) (lawful .r5) (lawful .r6) (lay .few) f parent k l
 

@@ -9,7 +9,7 @@ use lib.ListN.{length, getD}
 use Rattle.field.specs.Numbers.{u16At, u32At}
 use Rattle.tables.specs.declared.places.Places.{Places}
 use Rattle.tables.specs.Places.{Layout}
-use Rattle.tables.specs.Lawful.{Lawful}
+use Rattle.tables.specs.Lawful.{LawfulWith}
 use Rattle.tables.specs.Indexes.{tableAt, wordOf, baseOf, fileOf}
 use Rattle.tables.specs.Rules.R8.{fileSectors}
 use Rattle.tables.specs.Views.{View, viewOf, Parent}
@@ -61,7 +61,7 @@ places-trans u v w f h k = record { most = omega (arith, h .most, k .most); plac
 
 -- ---- a file that is not named: it stands, with the same sectors at the same places
 
-module _ (p : Places) (b : List ℕ) (lay : Layout p (length b)) (lawful : Lawful p b) (w : View) (f : ℕ) (h : Untouched (viewOf p b) w f) (g : ℕ) (parent : Parent (viewOf p b) g) (other : g ≢ f) where
+module _ (p : Places) (b : List ℕ) (lay : Layout p (length b)) {extra : ℕ → ℕ} (lawful : LawfulWith extra p b) (w : View) (f : ℕ) (h : Untouched (viewOf p b) w f) (g : ℕ) (parent : Parent (viewOf p b) g) (other : g ≢ f) where
   was : (j : ℕ) → 1 ≤ j → j ≤ p .indexes → fileOf j (tableAt p b j) ≡ g → w .table j ≡ tableAt p b j
   was j lo hi e = h .was j lo hi (λ z. omega (arith, parent .low)) (λ z. other (sym e ∙ z))
 
@@ -124,7 +124,7 @@ module _ (v v' : View) (f : ℕ) (same : v' .indexes ≡ v .indexes) (parent : P
   pub stated-follows : FileFollows v v' f
   stated-follows = record { each = λ j lo hi own. elim (ℕ-discrete j f) [ yes e ↦ rw e here | no ne ↦ follows-same j _ _ (there j lo hi ne) ] }
 
-module _ (p : Places) (b : List ℕ) (lay : Layout p (length b)) (lawful : Lawful p b) (b' : List ℕ) (f : ℕ) (parent : Parent (viewOf p b) f)
+module _ (p : Places) (b : List ℕ) (lay : Layout p (length b)) {extra : ℕ → ℕ} (lawful : LawfulWith extra p b) (b' : List ℕ) (f : ℕ) (parent : Parent (viewOf p b) f)
     (there : (j : ℕ) → 1 ≤ j → j ≤ p .indexes → j ≢ f → tableAt p b' j ≡ tableAt p b j)
     (here : (o : ℕ) → (o < 28) → getD (tableAt p b' f) o 0 ≡ getD (tableAt p b f) o 0) (here' : (o : ℕ) → 58 ≤ o → getD (tableAt p b' f) o 0 ≡ getD (tableAt p b f) o 0) where
   restated-follows : FileFollows (viewOf p b) (viewOf p b') f
@@ -146,7 +146,7 @@ module _ (p : Places) (b : List ℕ) (lay : Layout p (length b)) (lawful : Lawfu
 
 -- ---- an actual delete
 
-module _ (p : Places) (b : List ℕ) (lay : Layout p (length b)) (lawful : Lawful p b) (f : ℕ) (parent : Parent (viewOf p b) f) (date : List ℕ) (six : length date ≡ 6) where
+module _ (p : Places) (b : List ℕ) (lay : Layout p (length b)) {extra : ℕ → ℕ} (lawful : LawfulWith extra p b) (f : ℕ) (parent : Parent (viewOf p b) f) (date : List ℕ) (six : length date ≡ 6) where
   freed : Freed (viewOf p b) (viewOf p (freedFile p b f date)) f
   freed = freed-view p b lay lawful f parent date six
 

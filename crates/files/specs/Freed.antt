@@ -6,7 +6,7 @@ use mathlib.Core.Logic.{_≢_}
 use Prim.Native.Nat.{ℕ, _+_, _-_, _*_, _≤_, _<_}
 use Rattle.field.specs.Parts.{AllBytes}
 use Rattle.tables.specs.Kinds.{firstOf}
-use Rattle.tables.specs.Blocks.{Typed, blockOf}
+use Rattle.tables.specs.Blocks.{ZoneType, blockOf}
 use Rattle.tables.specs.Indexes.{fileOf}
 use Rattle.tables.specs.Views.{View, next}
 use Rattle.tables.specs.Each.{Each}
@@ -15,7 +15,7 @@ use Rattle.tables.specs.Rules.R3.{Blocks}
 use Rattle.tables.specs.Rules.R4.{R4}
 use Rattle.tables.specs.Rules.R5.{R5}
 use Rattle.tables.specs.Rules.R6.{R6}
-use Rattle.tables.specs.Rules.R7.{R7}
+use Rattle.tables.specs.Rules.R7.{Owned}
 use Rattle.tables.specs.Rules.R8.{R8}
 use Rattle.tables.specs.Rules.R9.{R9}
 use Rattle.allocation.specs.Steps.{SameFiles}
@@ -42,20 +42,20 @@ pub record Freed (v v' : View) (f : ℕ) : Type 0 where
 
 -- the entry of zone z is n clear blocks short; no other zone than one of type 3-8 is short of any
 pub record Short (v : View) (z n : ℕ) : Type 0 where
-  pub typed : Typed (v .zone z .ztype) → Blocks (v .bit) (firstOf z) (blockOf (v .zone z .ztype)) (v .zone z .free + n)
-  pub other : (Typed (v .zone z .ztype) → ⊥) → n ≡ 0
+  pub typed : ZoneType (v .zone z .ztype) → Blocks (v .bit) (firstOf z) (blockOf (v .zone z .ztype)) (v .zone z .free + n)
+  pub other : (ZoneType (v .zone z .ztype) → ⊥) → n ≡ 0
 
 abbrev pub AllShort : View → (ℕ → ℕ) → Type 0
 AllShort v freed = Each (λ z. Short v z (freed z)) 2 (v .zones)
 
--- the rules between the two steps: R3's free counts are short of what is freed
-pub record Uncounted (v : View) (freed : ℕ → ℕ) : Type 0 where
+-- the rules between the two steps, with `extra` set besides: R3's free counts are short of what is freed
+pub record Uncounted (extra : ℕ → ℕ) (v : View) (freed : ℕ → ℕ) : Type 0 where
   pub r2 : R2 v
   pub short : AllShort v freed
   pub r4 : R4 v
   pub r5 : R5 v
   pub r6 : R6 v
-  pub r7 : R7 v
+  pub r7 : Owned v extra
   pub r8 : R8 v
   pub r9 : R9 v
 

@@ -12,7 +12,7 @@ use Rattle.tables.specs.Blocks.{blockOf, perZone}
 use Rattle.tables.specs.Indexes.{tableAt, erased, putLink, slotsOf, startOf, countOf, fileOf}
 use Rattle.tables.specs.Sector1.{deletedOf, putDeleted, freeOf, putFree, putLatest, firstFreeOf, putFirstFree}
 use Rattle.tables.specs.Sectors.{putSectors}
-use Rattle.tables.specs.Views.{View, viewOf, next, onlyIf, tally, overOf}
+use Rattle.tables.specs.Views.{View, viewOf, next, onlyIf, tally, claimsOf}
 use Rattle.tables.specs.Zones.{zoneAt, putZone}
 use Rattle.allocation.specs.Last.{lastTable}
 
@@ -63,7 +63,7 @@ freedFile p b f date =
 
 -- how many pointers of file f's tables lie over sector s
 unfoldable pub gone : View → ℕ → ℕ → ℕ
-gone v f s = tally v (λ i t. onlyIf (eqb (fileOf i t) f) (overOf i t s))
+gone v f s = tally v (λ i t. onlyIf (eqb (fileOf i t) f) (claimsOf i t s))
 
 -- how many blocks of zone z lie under pointers of file f's tables: each lies there whole (R6), so that its first sector tells, and under one
 -- pointer (R7)

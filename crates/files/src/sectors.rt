@@ -5,7 +5,9 @@ use crate::spot::sector_of;
 use crate::spot::seek;
 use field::parts::copy;
 use tables::kinds::Index;
+use tables::kinds::SECTOR_LEN;
 use tables::kinds::Sector;
+use tables::kinds::ZONE;
 use tables::places::Places;
 ghost use mathlib.Core.Path.{_≡_};
 ghost use Prim.Native.Nat.{_+_, _-_, _*_, _≤_};
@@ -17,13 +19,16 @@ ghost use Rattle.files.specs.Spots.{spotStart};
 ghost use Rattle.files.specs.Asked.{OnSector};
 ghost use Rattle.files.specs.Moves.{exchanged, moved, bodyPlace, filled, fetched, Movable};
 
+// The sectors of zone 1, for which the body has no room.
+const FIRST_ZONE: usize = ZONE as usize;
+
 // Byte pairs exchanged.
 fn exchange_sector(dst: &mut [u8], src: &[u8])
     requires { ⌜ (length (now dst) ≡ 1024) × (length (now src) ≡ 1024) ⌝ }
     ensures { λ _. ⌜ now (dst .exit) ≡ exchanged (now (src .entry)) ⌝ }
 {
     let mut j: usize = 0;
-    while j < 1024 {
+    while j < SECTOR_LEN {
         dst[j] = src[j + 1];
         dst[j + 1] = src[j];
         j += 2;
@@ -47,7 +52,7 @@ pub fn body_place(s: Sector) -> usize
     requires { ⌜ 1024 ≤ s .0 ⌝ }
     ensures { λ r. ⌜ r ≡ bodyPlace (s .0) ⌝ }
 {
-    1024 * (s.0 as usize - 1024)
+    SECTOR_LEN * (s.0 as usize - FIRST_ZONE)
 }
 
 // Where the spot's sector begins in the body.
@@ -79,9 +84,9 @@ pub fn write_sectors(
     let mut i: u32 = 0;
     while i < n {
         let a = spot_place(b, p, c);
-        let e = a + 1024;
-        let from = 1024 * (i as usize);
-        let to = from + 1024;
+        let e = a + SECTOR_LEN;
+        let from = SECTOR_LEN * (i as usize);
+        let to = from + SECTOR_LEN;
         move_sector(&mut body[a..e], &input[from..to], exchange);
         c = onward(b, p, c);
         i += 1;
@@ -108,9 +113,9 @@ pub fn read_sectors(
     let mut i: u32 = 0;
     while i < n {
         let a = spot_place(b, p, c);
-        let e = a + 1024;
-        let from = 1024 * (i as usize);
-        let to = from + 1024;
+        let e = a + SECTOR_LEN;
+        let from = SECTOR_LEN * (i as usize);
+        let to = from + SECTOR_LEN;
         move_sector(&mut out[from..to], &body[a..e], exchange);
         c = onward(b, p, c);
         i += 1;

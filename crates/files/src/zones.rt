@@ -1,7 +1,9 @@
 // Zone entries once sectors have been freed: clear blocks that an entry does not count yet are counted in it.
 use field::runs::count_bits;
 use tables::blocks::block_sectors;
+use tables::blocks::is_zone_type;
 use tables::blocks::zone_blocks;
+use tables::kinds::ZONE;
 use tables::kinds::Zone;
 use tables::kinds::first_sector;
 use tables::places::Places;
@@ -11,7 +13,7 @@ use tables::zone::zone_entry;
 ghost use mathlib.Core.Path.{_≡_};
 ghost use Prim.Native.Nat.{ℕ, _+_, _-_, _≤_, _<_};
 ghost use lib.ListN.{length};
-ghost use Rattle.tables.specs.Blocks.{Typed, blockOf};
+ghost use Rattle.tables.specs.Blocks.{ZoneType, blockOf};
 ghost use Rattle.tables.specs.Kinds.{firstOf};
 ghost use Rattle.tables.specs.Places.{Layout};
 ghost use Rattle.tables.specs.Rules.R3.{Blocks};
@@ -20,21 +22,24 @@ ghost use Rattle.tables.specs.Views.{viewOf};
 ghost use Rattle.files.specs.Freed.{Short, AllShort};
 ghost use Rattle.files.specs.Release.{recounted, recountZone, recountZones};
 
+// The bits of a zone.
+const ZONE_LEN: usize = ZONE as usize;
+
 // How many blocks of zone z, which is of type t, are clear.
 fn clear_blocks(b: &[u8], p: Places, z: Zone, t: u32) -> u32
     requires { ⌜ Layout p (length (now b)) ⌝ }
     requires { ⌜ (2 ≤ z .0) × (z .0 < p .zones) ⌝ }
-    requires { ⌜ Typed t ⌝ }
+    requires { ⌜ ZoneType t ⌝ }
     ensures { λ r. ⌜ (r ≤ 1024) × ((n : ℕ) → Blocks (sectorAt p (now (b .entry))) (firstOf (z .0)) (blockOf t) n → r ≡ n) ⌝ }
 {
     let first = first_sector(z).0 as usize;
-    let set = count_bits(b, p.sectortable, first, 1024);
-    (1024 - set) / block_sectors(t)
+    let set = count_bits(b, p.sectortable, first, ZONE_LEN);
+    (ZONE - set) / block_sectors(t)
 }
 
 // A zone's entry with n blocks freed.
 fn recounted(e: ZoneEntry, n: u32) -> ZoneEntry
-    requires { ⌜ Typed (e .ztype) ⌝ }
+    requires { ⌜ ZoneType (e .ztype) ⌝ }
     requires { ⌜ e .free + n ≤ 1024 ⌝ }
     ensures { λ r. ⌜ r ≡ recounted e n ⌝ }
 {
@@ -60,10 +65,7 @@ fn recount_zone(b: &mut [u8], p: Places, z: Zone)
     ensures { λ _. ⌜ ((n : ℕ) → Short (viewOf p (now (b .entry))) (z .0) n → now (b .exit) ≡ recountZone p (now (b .entry)) (z .0) n) ⌝ }
 {
     let e = zone_entry(b, p, z);
-    if e.ztype < 3 {
-        return;
-    }
-    if e.ztype > 8 {
+    if !is_zone_type(e.ztype) {
         return;
     }
     let n = clear_blocks(b, p, z, e.ztype);

@@ -22,7 +22,7 @@ use Rattle.files.proofs.UntouchedLaws.{other-table, other-parent, other-sectors
 use Rattle.requests.specs.declared.amount.Amount.{Amount}
 use Rattle.requests.specs.declared.answer.Answer.{Answer}
 use Rattle.requests.specs.Answers.{after, numberOf, answerOf, useTests, argumentTests}
-use Rattle.requests.specs.Body.{bodyTests}
+use Rattle.requests.specs.Body.{bodyTest}
 use Rattle.requests.specs.Amounts.{amountValue}
 use Rattle.requests.specs.Locate.{kthOf}
 use Rattle.requests.specs.Named.{fileBytes, stateTests, usableTests}
@@ -31,7 +31,7 @@ use Rattle.requests.specs.Moving.{endOf}
 use Rattle.requests.specs.Show.{showTests, bytesOf, Shown}
 use Rattle.tables.proofs.GateLaws.{zero-good}
 use Rattle.histories.specs.History.{Volume, seen, LawfulVolume, write, Does, bytesAt}
-use Rattle.histories.proofs.StepLawful.{step-places, step-lawful}
+use Rattle.histories.proofs.StepFrame.{step-places, step-lawful}
 use Rattle.histories.proofs.StepWrite.{wrote-steady}
 use Rattle.histories.proofs.HistoryLaws.{other-bytes}
 use Rattle.requests.proofs.LocateLaws.{show-asks}
@@ -92,8 +92,8 @@ module _ (v w : Volume) (g : ℕ) (a : SameFile v w g) where
       same-more 5 _ _ ts us (λ ne e. ne (sym (a .flag) ∙ e)) (λ ne e. ne (a .flag ∙ e)) (λ s. h)))))
 
   -- 15, 8, 9, 10
-  same-body : (n : ℕ) (ts us : List Test) → (Parent (seen v) g → Same ts us) → Same (bodyTests n (v .books) (v .body) g ++ ts) (bodyTests n (w .books) (w .body) g ++ us)
-  unfolding bodyTests usableTests stateTests
+  same-body : (n : ℕ) (ts us : List Test) → (Parent (seen v) g → Same ts us) → Same (bodyTest (v .books) (v .body) ∷ (usableTests n (v .books) g ++ ts)) (bodyTest (w .books) (w .body) ∷ (usableTests n (w .books) g ++ us))
+  unfolding usableTests stateTests
   same-body n ts us h =
       same-more 15 _ _ _ _ (λ s. a .now .sized) (λ s. a .was .sized) (λ s.
       same-more 8 _ _ _ _ (a .stands) (a .stood) (λ parent.

@@ -28,7 +28,7 @@ use Rattle.requests.specs.declared.amount.Amount.the-variants.{Is}
 use Rattle.requests.specs.declared.answer.Answer.{Answer}
 use Rattle.requests.specs.declared.answer.Answer.the-variants.{Done, Refused}
 use Rattle.requests.specs.Answers.{useTests, argumentTests}
-use Rattle.requests.specs.Body.{BodySized, bodyTests}
+use Rattle.requests.specs.Body.{BodySized}
 use Rattle.requests.specs.Named.{fileBytes, stateTests, usableTests}
 use Rattle.requests.specs.Read.{readTests, readAmount, readOut, ReadOut}
 use Rattle.requests.specs.Moving.{wholeSectors, endOf, MoveAllowed}
@@ -169,7 +169,7 @@ kth5 = kth-same (viewOf (placesOf after5) after5) view5 1 4 (λ j l. rw (spots5 
 -- no number before 14 applies
 read5 : (at long n : ℕ) → at ≤ 2147483647 → at % 1024 ≡ 0 → long ≤ 2147483647 → Gate (asks 14 (at < endOf after5 1) ∷ []) n
     → (body out : List ℕ) → BodySized after5 body → wholeSectors long ≤ length out → Gate (readTests after5 body 1 (Is at) (Is long) (length out)) n
-unfolding readTests argumentTests useTests bodyTests usableTests stateTests
+unfolding readTests argumentTests useTests usableTests stateTests
 read5 at long n few whole short last body out sized room =
     let fine : MoveAllowed (Is at) (Is long) (length out) = record { position' = few; sector = whole; long' = short; buffer = room } in
     let word = ap wordOf bytes5 ∙ fields5 .0 in

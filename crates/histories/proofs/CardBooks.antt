@@ -34,7 +34,7 @@ use Rattle.tables.proofs.CountsLaws.{counts-six}
 use Rattle.tables.proofs.SameLaws.{same-ground}
 use Rattle.tables.proofs.RoomLaws.{supply-enough}
 use Rattle.allocation.specs.Find.{find}
-use Rattle.allocation.specs.Choice.{inOrder, inTurn, nextBlock}
+use Rattle.allocation.specs.Choice.{inOrder, inTurn, choose}
 use Rattle.allocation.specs.NextPointer.{noPointer}
 use Rattle.allocation.specs.Stock.{Stocked}
 use Rattle.allocation.specs.MadeFiles.{Provided, started}
@@ -67,7 +67,7 @@ unfolding blank freshView
 view len z = freshView z 8 (tableAt (freshPlaces z 8) (blank len z))
 
 unfoldable pub withView : View → ℕ → ℕ → View
-unfolding plainFile createdView countsOf over putU16 putU32 u16At u32At blockOf cov onlyIf isOpen spareIn nextBlock
+unfolding plainFile createdView countsOf over putU16 putU32 u16At u32At blockOf cov onlyIf isOpen spareIn choose
 withView w flag size = createdView (w .head) w (plainFile size) (countsOf flag size)
 
 -- there is room for blocks of these counts
@@ -77,7 +77,7 @@ roomy w counts = leb (sumTo 6 (λ i. lackOf w (i + 3) (countAt counts (i + 3))))
 
 -- the tables that the file takes
 unfoldable pub taken : View → ℕ → ℕ → ℕ
-unfolding plainFile startedView addView inTurn inOrder countsOf over putU16 putU32 u16At u32At blockOf cov onlyIf isOpen spareIn nextBlock
+unfolding plainFile startedView addView inTurn inOrder countsOf over putU16 putU32 u16At u32At blockOf cov onlyIf isOpen spareIn choose
 taken w flag size = inTurn (addView (w .head)) (inOrder (countsOf flag size)) (startedView w (plainFile size)) .cursor .tail .tables
 
 valid-date : Date cardDate

@@ -2,7 +2,7 @@
 -- the rules still hold; each sector outside the system zones is free or belongs to one place of one file; a request changes no index table and
 -- no data byte of a file it does not name; each file sector holds what the last write put there until the file's actual delete; no index chain
 -- is longer than the number of index tables." The terms are those of specs/History.antt.
-use mathlib.Core.Path.{_≡_, sym, _∙_}
+use mathlib.Core.Path.{_≡_, refl, sym, _∙_}
 use mathlib.Core.Logic.{_⊎_, inl, inr, _≢_}
 use mathlib.Core.Bool.{Bool}
 use mathlib.Core.List.{List}
@@ -32,10 +32,9 @@ use Rattle.requests.specs.declared.answer.Answer.{Answer}
 use Rattle.requests.specs.Read.{ReadOut}
 use Rattle.requests.specs.Show.{Shown}
 use Rattle.requests.specs.State.{removed, recovered, protected}
-use Rattle.histories.specs.History.{Volume, seen, LawfulVolume, Changes, temporaryDelete, recover, setProtection, write, Does, RequestStep, History, namedBy, Belongs, bytesAt, PutsIn, Deletes, SparedIn}
+use Rattle.histories.specs.History.{Volume, seen, LawfulVolume, temporaryDelete, recover, setProtection, write, Does, RequestStep, History, namedBy, Belongs, bytesAt, PutsIn, Deletes, SparedIn}
 use Rattle.requests.proofs.StateKeeps.{removed-keeps, recovered-keeps, protected-keeps, after-pointer}
-use Rattle.histories.proofs.StepLawful.{step-lawful}
-use Rattle.histories.proofs.StepFrame.{step-untouched, step-bytes, step-puts}
+use Rattle.histories.proofs.StepFrame.{step-lawful, step-untouched, step-bytes, step-puts}
 use Rattle.histories.proofs.HistoryLaws.{other-bytes, step-place, lawful-after, spared-stays, free-short}
 use Rattle.requests.proofs.StampLaws.{removed-restates, recovered-restates, protected-restates}
 use Rattle.histories.proofs.AlikeLaws.{SameFile, shows-same, reads-same, wrote-same}
@@ -60,7 +59,7 @@ module _ (v w : Volume) (start : LawfulVolume v) (h : History v w) where
   pub free-or-belongs : (s : ℕ) → 1024 ≤ s → s < 1024 * (seen w .zones - 1) → (seen w .bit s ≡ 0) ⊎ ((f : ℕ) × (k : ℕ) × Belongs w f k s)
   free-or-belongs s low high = elim (ℕ-discrete (seen w .bit s) 0) [
     | yes z ↦ inl z
-    | no ne ↦ (let u = set-under (seen w) (lawful .r6) (lawful .r7) bits s high low (omega (arith, bits s)) in
+    | no ne ↦ (let u = set-under (seen w) (lawful .r6) (lawful .r7) bits s high low (omega (arith, bits s)) refl in
         let q = under-place (placesOf (w .books)) (w .books) layout lawful (u .0) (u .1) s (u .2) in
         inr (fileOf (u .0) (seen w .table (u .0)), q .1 .0, record { file = q .0; place = q .1 .1; here = q .1 .2 }))
   ]
@@ -147,17 +146,23 @@ module _ (v w : Volume) (start : LawfulVolume v) (h : History v w) where
 abbrev pointer : List ℕ → ℕ → ℕ → Pointer
 pointer b i j = let t = viewOf (placesOf b) b .table i in pointerAt t (baseOf i t + 6 * j)
 
--- ---- "temporary delete, recover and set protection change neither pointers nor data": data, since they do not take the body
+-- ---- "temporary delete, recover and set protection change neither pointers nor data": data, since the body stays (`BooksOnly`)
 
-module _ (b b' : List ℕ) (good : Good b (placesOf b)) (id w : ℕ) (date : List ℕ) (i j : ℕ) (low : 1 ≤ i) (high : i ≤ placesOf b .indexes) where
-  pub removed-pointers : Changes (temporaryDelete id date) b b' → pointer b' i j ≡ pointer b i j
-  removed-pointers d = after-pointer (d .0) (removed (placesOf b) b id date) b b' id i j low high good (removed-keeps b id date (d .0) b' (placesOf b) (d .1) good) (d .1 .books)
-      (removed-restates b good id date (d .0) (d .1 .number))
+module _ (v v' : Volume) (good : Good (v .books) (placesOf (v .books))) (id w : ℕ) (date : List ℕ) (i j : ℕ) (low : 1 ≤ i) (high : i ≤ seen v .indexes) where
+  abbrev b : List ℕ
+  b = v .books
 
-  pub recovered-pointers : Changes (recover id date) b b' → pointer b' i j ≡ pointer b i j
-  recovered-pointers d = after-pointer (d .0) (recovered (placesOf b) b id date) b b' id i j low high good (recovered-keeps b id date (d .0) b' (placesOf b) (d .1) good) (d .1 .books)
-      (recovered-restates b good id date (d .0) (d .1 .number))
+  abbrev b' : List ℕ
+  b' = v' .books
 
-  pub protected-pointers : Changes (setProtection id w date) b b' → pointer b' i j ≡ pointer b i j
-  protected-pointers d = after-pointer (d .0) (protected (placesOf b) b id w date) b b' id i j low high good (protected-keeps b id w date (d .0) b' (placesOf b) (d .1) good) (d .1 .books)
-      (protected-restates b good id date (d .0) w (d .1 .number))
+  pub removed-pointers : Does (temporaryDelete id date) v v' → pointer b' i j ≡ pointer b i j
+  removed-pointers (r, d) = after-pointer r (removed (placesOf b) b id date) b b' id i j low high good (removed-keeps b id date r b' (placesOf b) (d .promise) good) (d .promise .books)
+      (removed-restates b good id date r (d .promise .number))
+
+  pub recovered-pointers : Does (recover id date) v v' → pointer b' i j ≡ pointer b i j
+  recovered-pointers (r, d) = after-pointer r (recovered (placesOf b) b id date) b b' id i j low high good (recovered-keeps b id date r b' (placesOf b) (d .promise) good) (d .promise .books)
+      (recovered-restates b good id date r (d .promise .number))
+
+  pub protected-pointers : Does (setProtection id w date) v v' → pointer b' i j ≡ pointer b i j
+  protected-pointers (r, d) = after-pointer r (protected (placesOf b) b id w date) b b' id i j low high good (protected-keeps b id w date r b' (placesOf b) (d .promise) good) (d .promise .books)
+      (protected-restates b good id date r w (d .promise .number))

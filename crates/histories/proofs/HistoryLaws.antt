@@ -1,7 +1,6 @@
 -- Histories: what each step keeps, all of them keep; and the length of the free chain.
 use mathlib.Core.Path.{_≡_, refl, sym, ap, _∙_}
 use mathlib.Core.Logic.{_≢_}
-use mathlib.Core.List.{List}
 use Prim.Native.Nat.{ℕ, _+_, _-_, _≤_, _<_}
 use native.Mathlib.Omega.{arith}
 use Rattle.field.proofs.Sums.{sum-one, sum-out}
@@ -16,17 +15,10 @@ use Rattle.files.specs.Moves.{sectorContent}
 use Rattle.files.specs.Spots.{kthSector}
 use Rattle.files.proofs.UntouchedLaws.{other-parent, other-places}
 use Rattle.tables.proofs.GateLaws.{zero-good}
-use Rattle.histories.specs.History.{Volume, seen, LawfulVolume, Request, looks, changes, write, Does, RequestStep, History, none, then, namedBy, Belongs, bytesAt, PutsIn, Deletes, SparedIn}
-use Rattle.histories.proofs.StepLawful.{step-lawful}
-use Rattle.histories.proofs.StepFrame.{step-untouched, step-stands, step-bytes}
+use Rattle.histories.specs.History.{Volume, seen, LawfulVolume, Request, Does, RequestStep, History, none, then, namedBy, Belongs, bytesAt, Deletes, SparedIn}
+use Rattle.histories.proofs.StepFrame.{step-lawful, step-untouched, step-stands, step-bytes, step-own}
 
 -- ---- steps
-
--- only the file that is named is written
-pub puts-named : (v w : Volume) (q : Request) (d : Does q v w) (f k : ℕ) (bytes : List ℕ) → PutsIn v w q d f k bytes → namedBy q ≡ f
-puts-named v w (looks q) d f k bytes p = absurd p
-puts-named v w (changes c) d f k bytes p = absurd p
-puts-named v w (write id position long exchange input date) d f k bytes p = p .file
 
 -- a file that is not named: its data bytes stay
 module _ (v w : Volume) (lawful : LawfulVolume v) (q : Request) (d : Does q v w) (g : ℕ) (parent : Parent (seen v) g) (other : g ≢ namedBy q) where
@@ -40,7 +32,7 @@ module _ (v w : Volume) (lawful : LawfulVolume v) (q : Request) (d : Does q v w)
       let stays = other-places p b (good .layout) (good .lawful) (seen w) (u .0) (u .1) g parent ne in
       let stands = other-parent p b (good .layout) (good .lawful) (seen w) (u .0) (u .1) g parent ne in
       step-bytes v w lawful q d g k (kthSector (seen w) g k) (record { file = stands; place = omega (arith, stays .most); here = refl })
-      (λ bytes put. other (sym (puts-named v w q d g k bytes put))) ∙ ap (sectorContent (v .body)) (stays .place k l)
+      (λ bytes put. other (sym (step-own v w lawful q d g k bytes put parent))) ∙ ap (sectorContent (v .body)) (stays .place k l)
 
 -- a file's sectors stay at their places until it is deleted
 pub step-place : (v w : Volume) → LawfulVolume v → (s : RequestStep v w) (f k n : ℕ) → Belongs v f k n → (Deletes v w (s .request) (s .does) f → ⊥) → Belongs w f k n

@@ -2,7 +2,7 @@ pub mod StepLeaves
 pub mod StepState
 pub mod StepGrow
 pub mod StepWrite
-pub mod StepLawful
+pub mod StepEffects
 pub mod StepFrame
 pub mod HistoryLaws
 pub mod AlikeLaws

@@ -15,25 +15,25 @@ use Rattle.tables.specs.Lawful.{Lawful}
 use Rattle.tables.specs.Places.{placesOf, Layout}
 use Rattle.tables.specs.Sector1.{flagOf}
 use Rattle.tables.specs.Views.{viewOf, Parent}
-use Rattle.tables.proofs.GateLaws.{gate-rest, gate-head, gate-front}
+use Rattle.tables.proofs.GateLaws.{gate-passes, gate-rest, gate-head, gate-front}
 use Rattle.files.specs.Moves.{filled, fetched, Movable}
 use Rattle.files.proofs.MoveLaws.{read-back}
 use Rattle.requests.specs.declared.amount.Amount.{Amount}
 use Rattle.requests.specs.declared.answer.Answer.{Answer}
 use Rattle.requests.specs.declared.answer.Answer.the-variants.{Done}
 use Rattle.requests.specs.Answers.{numberOf, useTests, argumentTests}
-use Rattle.requests.specs.Body.{bodyTests}
+use Rattle.requests.specs.Body.{BodySized}
 use Rattle.requests.specs.Amounts.{amountValue}
 use Rattle.requests.specs.Grow.{lackTests, grownTo}
-use Rattle.requests.specs.Named.{fileBytes, namedTests, Unprotected}
+use Rattle.requests.specs.Named.{fileBytes, namedTests, Unprotected, usableTests}
 use Rattle.requests.specs.Read.{readTests, ReadOut}
 use Rattle.requests.specs.Moving.{wholeSectors, endOf, MoveAllowed}
 use Rattle.requests.specs.Write.{WriteAllowed, askedLength, moveTests, writeTests, settle, writtenBooks, writtenBody, Wrote}
 use Rattle.requests.proofs.JudgedLaws.{use-fine}
 use Rattle.requests.proofs.ArgumentLaws.{argument-fine}
-use Rattle.requests.proofs.NamedLaws.{state-fine, usable-active, usable-fine, body-goes, body-usable}
+use Rattle.requests.proofs.NamedLaws.{state-fine, usable-active, usable-fine}
 use Rattle.requests.proofs.StampLaws.{same-counted, put-fields}
-use Rattle.requests.proofs.ReadLaws.{amount-wanted, read-fine, read-done, read-one}
+use Rattle.requests.proofs.ReadLaws.{amount-wanted, read-goes, read-fine, read-done, read-one}
 use Rattle.requests.proofs.WriteLaws.{asked-variable, Grown, grown-is, settle-is, write-allows, write-good, write-parent, write-within, write-lack}
 use Rattle.requests.proofs.WriteKeeps.{some-written, grown-good, settles, written-flag, wrote-asks, wrote-keeps}
 
@@ -83,7 +83,7 @@ module _ (b body : List ℕ) (id : ℕ) (position long : Amount) (x : Bool) (inp
   unfolding writeTests moveTests
   active =
       let rest = gate-rest (argumentTests b (WriteAllowed position long (length input) date)) _ gate in
-      usable-active 4 b id (body-usable 4 b body id (gate-front (bodyTests 4 b body id) _ rest) .1) .1
+      usable-active 4 b id (gate-front (usableTests 4 b id) _ (gate-head 15 (BodySized b body) _ rest .1)) .1
 
   longer : Grown b id (askedLength b id at n) b₁
   longer = grown-is b id (askedLength b id at n) date good parent lack (allowed .date' .long)
@@ -149,17 +149,21 @@ module _ (b body : List ℕ) (id : ℕ) (position long : Amount) (x : Bool) (inp
     named : Gate (namedTests b' id) 0
     named = state-fine b' p id (kept .0) 0 (moves .parent) (omega (arith, attribute', active))
 
-    usable : Gate (bodyTests 8 b' body' id) 0
+    sized : BodySized b' body'
+    sized = kept .1 ∙ moves .body' ∙ ap (λ (q : Places). 1048576 * (q .zones - 2)) same
+
+    usable : Gate (usableTests 8 b' id) 0
     usable =
         let free : attributeOf t' / 8 ≡ a / 8 = omega (arith, attribute') in
         let same' : attributeOf (fileBytes b' id) ≡ attributeOf t' = ap (λ (q : Places). attributeOf (tableAt q b' id)) (sym same) in
-        body-goes 8 b' body' id p (kept .0) 0 (kept .1 ∙ moves .body') (usable-fine 8 b' id 0 named refl (ap (λ (k : ℕ). k / 8 % 2) same' ∙ ap (λ (k : ℕ). k % 2) free ∙ readable))
+        usable-fine 8 b' id 0 named refl (ap (λ (k : ℕ). k / 8 % 2) same' ∙ ap (λ (k : ℕ). k % 2) free ∙ readable)
 
     number : Gate (readTests b' body' id position long (length out)) 0
     number =
         let m = allowed .move in
         let fine : MoveAllowed position long (length out) = record { position' = m .position'; sector = m .sector; long' = m .long'; buffer = fits } in
-        read-fine b' body' id position long (length out) true 0 fine (argument-fine b' true 0 used refl refl) refl 0 usable refl at (endOf b' id) refl refl (omega (arith, end'))
+        read-goes b' body' id position long (length out) true 0 fine (argument-fine b' true 0 used refl refl) 0 refl
+        (gate-passes 15 (BodySized b' body') _ 0 sized (read-fine b' id position 0 usable refl at (endOf b' id) refl refl (omega (arith, end'))))
 
     reads : ReadOut b' body' id position long x out (Done n) (fetched (viewOf p b') id (at / 1024) x body' out (n / 1024))
     reads =

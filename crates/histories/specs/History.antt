@@ -52,29 +52,6 @@ pub record LawfulVolume (v : Volume) : Type 0 where
 
 -- ---- requests with their arguments; of lent buffers, what they hold before. Each promise has its answer, and what lent buffers hold then
 
--- those that change the books only, or not even these
-pub data Change : Type 0 where
-  mount : Change
-  dismount : Change
-  createFixed : (name : List ℕ) (size : Amount) (types : Chosen) (kind : ℕ) (date : List ℕ) → Change
-  createVariable : (name : List ℕ) (cell : Amount) (kind : ℕ) (date : List ℕ) → Change
-  grow : (id : ℕ) (long : Amount) (date : List ℕ) → Change
-  temporaryDelete : (id : ℕ) (date : List ℕ) → Change
-  recover : (id : ℕ) (date : List ℕ) → Change
-  actualDelete : (id : ℕ) (date : List ℕ) → Change
-  setProtection : (id w : ℕ) (date : List ℕ) → Change
-
-abbrev pub Changes : Change → List ℕ → List ℕ → Type 0
-Changes mount b b' = (r : ℕ) × Mounted b r b'
-Changes dismount b b' = (r : ℕ) × Dismounted b r b'
-Changes (createFixed name size types kind date) b b' = (r : Created) × CreatedFixed b name size types kind date r b'
-Changes (createVariable name cell kind date) b b' = (r : Created) × CreatedVariable b name cell kind date r b'
-Changes (grow id long date) b b' = (r : ℕ) × Grew b id long date r b'
-Changes (temporaryDelete id date) b b' = (r : ℕ) × Removed b id date r b'
-Changes (recover id date) b b' = (r : ℕ) × Recovered b id date r b'
-Changes (actualDelete id date) b b' = (r : ℕ) × Deleted b id date r b'
-Changes (setProtection id w date) b b' = (r : ℕ) × Protected b id w date r b'
-
 -- those that change nothing of the volume
 pub data Question : Type 0 where
   search : (pattern ids : List ℕ) → Question
@@ -96,16 +73,37 @@ Answers (read id position long exchange out) v = (r : Answer) × (out' : List �
 Answers space v = (r : Space) × Spaced (v .books) r
 Answers report v = (r : Text) × Reported (v .books) r
 
--- write, which changes books and body, and all others
+-- these, and those that may change it
 pub data Request : Type 0 where
   looks : Question → Request
-  changes : Change → Request
+  mount : Request
+  dismount : Request
+  createFixed : (name : List ℕ) (size : Amount) (types : Chosen) (kind : ℕ) (date : List ℕ) → Request
+  createVariable : (name : List ℕ) (cell : Amount) (kind : ℕ) (date : List ℕ) → Request
+  grow : (id : ℕ) (long : Amount) (date : List ℕ) → Request
+  temporaryDelete : (id : ℕ) (date : List ℕ) → Request
+  recover : (id : ℕ) (date : List ℕ) → Request
+  actualDelete : (id : ℕ) (date : List ℕ) → Request
+  setProtection : (id w : ℕ) (date : List ℕ) → Request
   write : (id : ℕ) (position long : Amount) (exchange : Bool) (input date : List ℕ) → Request
+
+-- a request that is lent the books alone: its promise P is about them, and the body stays
+pub record BooksOnly (P : List ℕ → List ℕ → Type 0) (v v' : Volume) : Type 0 where
+  pub promise : P (v .books) (v' .books)
+  pub same : v' .body ≡ v .body
 
 -- what the promise of the request says of the volume before and after
 abbrev pub Does : Request → Volume → Volume → Type 0
 Does (looks q) v v' = Answers q v × (v' ≡ v)
-Does (changes c) v v' = Changes c (v .books) (v' .books) × (v' .body ≡ v .body)
+Does mount v v' = (r : ℕ) × BooksOnly (λ b b'. Mounted b r b') v v'
+Does dismount v v' = (r : ℕ) × BooksOnly (λ b b'. Dismounted b r b') v v'
+Does (createFixed name size types kind date) v v' = (r : Created) × BooksOnly (λ b b'. CreatedFixed b name size types kind date r b') v v'
+Does (createVariable name cell kind date) v v' = (r : Created) × BooksOnly (λ b b'. CreatedVariable b name cell kind date r b') v v'
+Does (grow id long date) v v' = (r : ℕ) × BooksOnly (λ b b'. Grew b id long date r b') v v'
+Does (temporaryDelete id date) v v' = (r : ℕ) × BooksOnly (λ b b'. Removed b id date r b') v v'
+Does (recover id date) v v' = (r : ℕ) × BooksOnly (λ b b'. Recovered b id date r b') v v'
+Does (actualDelete id date) v v' = (r : ℕ) × BooksOnly (λ b b'. Deleted b id date r b') v v'
+Does (setProtection id w date) v v' = (r : ℕ) × BooksOnly (λ b b'. Protected b id w date r b') v v'
 Does (write id position long exchange input date) v v' = (r : Answer) × Wrote (v .books) (v .body) id position long exchange input date r (v' .books) (v' .body)
 
 -- ---- histories
@@ -122,20 +120,17 @@ pub data History : Volume → Volume → Type 0 where
 -- ---- what a request may change
 
 -- the file that a request which changes a file names; 0 for the others
-abbrev pub changedBy : Change → ℕ
-changedBy mount = 0
-changedBy dismount = 0
-changedBy (createFixed name size types kind date) = 0
-changedBy (createVariable name cell kind date) = 0
-changedBy (grow id long date) = id
-changedBy (temporaryDelete id date) = id
-changedBy (recover id date) = id
-changedBy (actualDelete id date) = id
-changedBy (setProtection id w date) = id
-
 abbrev pub namedBy : Request → ℕ
 namedBy (looks q) = 0
-namedBy (changes c) = changedBy c
+namedBy mount = 0
+namedBy dismount = 0
+namedBy (createFixed name size types kind date) = 0
+namedBy (createVariable name cell kind date) = 0
+namedBy (grow id long date) = id
+namedBy (temporaryDelete id date) = id
+namedBy (recover id date) = id
+namedBy (actualDelete id date) = id
+namedBy (setProtection id w date) = id
 namedBy (write id position long exchange input date) = id
 
 -- sector s of the volume belongs to place k of file f, active or temporarily deleted
@@ -159,24 +154,29 @@ pub record Puts (id : ℕ) (position long : Amount) (exchange : Bool) (input : L
 -- the step is such a write
 abbrev pub PutsIn : (v v' : Volume) (q : Request) → Does q v v' → ℕ → ℕ → List ℕ → Type 0
 PutsIn v v' (looks q) d f k bytes = ⊥
-PutsIn v v' (changes c) d f k bytes = ⊥
+PutsIn v v' mount d f k bytes = ⊥
+PutsIn v v' dismount d f k bytes = ⊥
+PutsIn v v' (createFixed name size types kind date) d f k bytes = ⊥
+PutsIn v v' (createVariable name cell kind date) d f k bytes = ⊥
+PutsIn v v' (grow id long date) d f k bytes = ⊥
+PutsIn v v' (temporaryDelete id date) d f k bytes = ⊥
+PutsIn v v' (recover id date) d f k bytes = ⊥
+PutsIn v v' (actualDelete id date) d f k bytes = ⊥
+PutsIn v v' (setProtection id w date) d f k bytes = ⊥
 PutsIn v v' (write id position long exchange input date) d f k bytes = Puts id position long exchange input (d .0) f k bytes
 
 -- the step is a done actual delete of file f
-abbrev pub ChangeDeletes : (b b' : List ℕ) (c : Change) → Changes c b b' → ℕ → Type 0
-ChangeDeletes b b' mount d f = ⊥
-ChangeDeletes b b' dismount d f = ⊥
-ChangeDeletes b b' (createFixed name size types kind date) d f = ⊥
-ChangeDeletes b b' (createVariable name cell kind date) d f = ⊥
-ChangeDeletes b b' (grow id long date) d f = ⊥
-ChangeDeletes b b' (temporaryDelete id date) d f = ⊥
-ChangeDeletes b b' (recover id date) d f = ⊥
-ChangeDeletes b b' (actualDelete id date) d f = (id ≡ f) × (d .0 ≡ 0)
-ChangeDeletes b b' (setProtection id w date) d f = ⊥
-
 abbrev pub Deletes : (v v' : Volume) (q : Request) → Does q v v' → ℕ → Type 0
 Deletes v v' (looks q) d f = ⊥
-Deletes v v' (changes c) d f = ChangeDeletes (v .books) (v' .books) c (d .0) f
+Deletes v v' mount d f = ⊥
+Deletes v v' dismount d f = ⊥
+Deletes v v' (createFixed name size types kind date) d f = ⊥
+Deletes v v' (createVariable name cell kind date) d f = ⊥
+Deletes v v' (grow id long date) d f = ⊥
+Deletes v v' (temporaryDelete id date) d f = ⊥
+Deletes v v' (recover id date) d f = ⊥
+Deletes v v' (actualDelete id date) d f = (id ≡ f) × (d .0 ≡ 0)
+Deletes v v' (setProtection id w date) d f = ⊥
 Deletes v v' (write id position long exchange input date) d f = ⊥
 
 -- the step neither writes place k of file f nor deletes the file

@@ -9,7 +9,7 @@ use borrow.Author.Tests.{lt-ltb, le-ltb}
 use Rattle.tables.specs.declared.places.Places.{Places}
 use Rattle.tables.specs.declared.counts.Chosen.{Chosen}
 use Rattle.tables.specs.declared.counts.Chosen.the-variants.{Types, Bad}
-use Rattle.tables.specs.Books.{Good}
+use Rattle.tables.specs.Books.{GoodWith}
 use Rattle.tables.specs.Counts.{countsOf, Countable}
 use Rattle.tables.specs.Dates.{Date}
 use Rattle.tables.specs.Gates.{Gate}
@@ -24,7 +24,7 @@ use Rattle.allocation.specs.NextPointer.{noPointer}
 use Rattle.allocation.specs.NewTables.{New}
 use Rattle.allocation.specs.Lengthened.{sectorsIn, AllOf}
 use Rattle.allocation.specs.NewLawful.{NewLawful}
-use Rattle.allocation.specs.MadeFiles.{onlyCounts, blocksFor, Provided, created, grown}
+use Rattle.allocation.specs.MadeFiles.{onlyCounts, blocksFor, created, grown, ProvidedWith}
 use Rattle.allocation.proofs.FileLaws.{length-only, order-only, ready-start, ready-grow}
 use Rattle.allocation.proofs.HeldLawful.{quiet-good, many-sectors, supplied-sectors, all-only}
 use Rattle.allocation.proofs.CreatedLawful.{created-lawful, created-quiet}
@@ -46,24 +46,24 @@ use Rattle.requests.proofs.LongerLaws.{lack-provided}
 
 -- ---- a new file
 
-pub made-keeps : (b : List ℕ) (p : Places) (n : New) (counts : List ℕ) → Good b p → Provided p b noPointer counts → NewLawful n counts → Good (created p b n counts) p
+pub made-keeps : (b : List ℕ) (p : Places) (n : New) (counts : List ℕ) {extra : ℕ → ℕ} → GoodWith extra b p → ProvidedWith extra p b noPointer counts → NewLawful n counts → GoodWith extra (created p b n counts) p
 made-keeps b p n counts g h new =
     let ready = ready-start p b counts n h (new .name .most) (new .date .long) in
     quiet-good b (created p b n counts) p g (created-quiet p b n counts h new ready) (created-lawful p b n counts h new ready)
 
 -- both creates, done: where the arguments are allowed the file is lawful, and there is all that it takes
-pub creates-asks : (b : List ℕ) (P : Type 0) (counts : List ℕ) (n : New) (r : Created) (b' : List ℕ) → Good b (placesOf b) → (P → NewLawful n counts × (length counts ≡ 6))
-    → Creates (argumentTests b P) b counts n r b' → numberOf r ≡ 0 → NewLawful n counts × Provided (placesOf b) b noPointer counts
+pub creates-asks : (b : List ℕ) (P : Type 0) (counts : List ℕ) (n : New) (r : Created) (b' : List ℕ) {extra : ℕ → ℕ} → GoodWith extra b (placesOf b) → (P → NewLawful n counts × (length counts ≡ 6))
+    → Creates (argumentTests b P) b counts n r b' → numberOf r ≡ 0 → NewLawful n counts × ProvidedWith extra (placesOf b) b noPointer counts
 creates-asks b P counts n r b' g new h z =
     let q = rw z at (h .number) in
     let a = new (argument-allowed b P 0 (gate-front (argumentTests b P) _ q) refl) in
     (a .0, room-provides b (placesOf b) noPointer counts 0 g (a .1) (gate-rest (argumentTests b P) _ q) refl)
 
-creates-keeps : (b : List ℕ) (P : Type 0) (counts : List ℕ) (n : New) (r : Created) (b' : List ℕ) (p : Places)
-    → (P → NewLawful n counts × (length counts ≡ 6)) → Creates (argumentTests b P) b counts n r b' → Good b p → Good b' p
+creates-keeps : (b : List ℕ) (P : Type 0) (counts : List ℕ) (n : New) (r : Created) (b' : List ℕ) (p : Places) {extra : ℕ → ℕ}
+    → (P → NewLawful n counts × (length counts ≡ 6)) → Creates (argumentTests b P) b counts n r b' → GoodWith extra b p → GoodWith extra b' p
 creates-keeps b P counts n r b' p new h g =
     done-keeps (numberOf r) (created (placesOf b) b n counts) b b' p (h .books) (λ z.
-    (let here : Good b (placesOf b) = rw (g .places) at g in
+    (let here = rw (g .places) at g in
     let a = creates-asks b P counts n r b' here new h z in
     rw (g .places) (made-keeps b (placesOf b) n counts here (a .1) (a .0)))) g
 
@@ -106,8 +106,8 @@ fixed-lawful name (Is n) (Types w) kind date a =
     )
 
 -- README's promise 3, "the nine book rules still hold": after create fixed
-pub fixed-keeps : (b name : List ℕ) (size : Amount) (types : Chosen) (kind : ℕ) (date : List ℕ) (r : Created) (b' : List ℕ) (p : Places)
-    → CreatedFixed b name size types kind date r b' → Good b p → Good b' p
+pub fixed-keeps : (b name : List ℕ) (size : Amount) (types : Chosen) (kind : ℕ) (date : List ℕ) (r : Created) (b' : List ℕ) (p : Places) {extra : ℕ → ℕ}
+    → CreatedFixed b name size types kind date r b' → GoodWith extra b p → GoodWith extra b' p
 fixed-keeps b name size types kind date r b' p = creates-keeps b _ _ _ r b' p (fixed-lawful name size types kind date)
 
 -- ---- create variable
@@ -123,17 +123,17 @@ variable-lawful name cell kind date a =
     )
 
 -- README's promise 3, "the nine book rules still hold": after create variable
-pub variable-keeps : (b name : List ℕ) (cell : Amount) (kind : ℕ) (date : List ℕ) (r : Created) (b' : List ℕ) (p : Places)
-    → CreatedVariable b name cell kind date r b' → Good b p → Good b' p
+pub variable-keeps : (b name : List ℕ) (cell : Amount) (kind : ℕ) (date : List ℕ) (r : Created) (b' : List ℕ) (p : Places) {extra : ℕ → ℕ}
+    → CreatedVariable b name cell kind date r b' → GoodWith extra b p → GoodWith extra b' p
 variable-keeps b name cell kind date r b' p = creates-keeps b _ _ _ r b' p (variable-lawful name cell kind date)
 
 -- ---- grow
 
 -- a file that becomes longer is variable, and of fewer than 2,147,483,648 bytes
-module _ (b : List ℕ) (id long : ℕ) (date : List ℕ) (g : Good b (placesOf b)) (parent : Parent (viewOf (placesOf b) b) id) (h : Gate (lackTests b id long) 0) (valid : Date date)
+module _ (b : List ℕ) (id long : ℕ) (date : List ℕ) {extra : ℕ → ℕ} (g : GoodWith extra b (placesOf b)) (parent : Parent (viewOf (placesOf b) b) id) (h : Gate (lackTests b id long) 0) (valid : Date date)
     (grows : lengthOf (fileBytes b id) < long → (variableBit (attributeOf (fileBytes b id)) ≡ 1) × (long < 2147483648)) where
   -- the blocks added are of the file's type, and enough
-  longer-keeps : lengthOf (fileBytes b id) < long → Good (grown (placesOf b) b id (growCounts b id long) long date) (placesOf b)
+  longer-keeps : lengthOf (fileBytes b id) < long → GoodWith extra (grown (placesOf b) b id (growCounts b id long) long date) (placesOf b)
   longer-keeps l =
       let p = placesOf b in
       let v : View = viewOf p b in
@@ -147,7 +147,7 @@ module _ (b : List ℕ) (id long : ℕ) (date : List ℕ) (g : Good b (placesOf 
       quiet-good b (grown p b id counts long date) p g (grown-quiet p b id counts long date provided parent valid ready)
       (grown-lawful p b id counts long date provided parent (grows l .0) (all-only n t typed) valid (grows l .1) most ready)
 
-  pub grown-keeps : Good (grownTo b id long date) (placesOf b)
+  pub grown-keeps : GoodWith extra (grownTo b id long date) (placesOf b)
   unfolding grownTo
   grown-keeps = elim (decLt (lengthOf (fileBytes b id)) long) [
     | yes l ↦ rw (lt-ltb (lengthOf (fileBytes b id)) long l) (longer-keeps l)
@@ -155,7 +155,7 @@ module _ (b : List ℕ) (id long : ℕ) (date : List ℕ) (g : Good b (placesOf 
   ]
 
 -- README's promise 3, "the nine book rules still hold": after grow
-pub grew-keeps : (b : List ℕ) (id : ℕ) (long : Amount) (date : List ℕ) (r : ℕ) (b' : List ℕ) (p : Places) → Grew b id long date r b' → Good b p → Good b' p
+pub grew-keeps : (b : List ℕ) (id : ℕ) (long : Amount) (date : List ℕ) (r : ℕ) (b' : List ℕ) (p : Places) {extra : ℕ → ℕ} → Grew b id long date r b' → GoodWith extra b p → GoodWith extra b' p
 grew-keeps b id long date r b' p h g =
     done-keeps r (grownTo b id (amountValue long) date) b b' p (h .books) (λ z.
     (let q : Gate (growTests b id long date) 0 = rw z at (h .number) in

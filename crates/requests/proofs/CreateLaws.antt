@@ -15,12 +15,12 @@ use Rattle.tables.specs.Names.{NewName}
 use Rattle.tables.specs.Places.{placesOf}
 use Rattle.tables.specs.Sector1.{firstFreeOf}
 use Rattle.tables.specs.Gates.{Test, Gate}
-use Rattle.tables.specs.Books.{Good}
+use Rattle.tables.specs.Books.{GoodWith}
 use Rattle.tables.proofs.GateLaws.{gate-one, gate-stop, gate-skip}
 use Rattle.allocation.specs.declared.tail.Tail.{Tail}
 use Rattle.allocation.specs.NextPointer.{noPointer}
 use Rattle.allocation.specs.NewTables.{New}
-use Rattle.allocation.specs.MadeFiles.{Provided, created}
+use Rattle.allocation.specs.MadeFiles.{created, ProvidedWith}
 use Rattle.requests.specs.declared.create.Created.{Created}
 use Rattle.requests.specs.declared.create.Created.the-variants.{Done, Refused}
 use Rattle.requests.specs.Answers.{argumentTests}
@@ -50,7 +50,7 @@ module _ (name : List ℕ) (kind : ℕ) (date : List ℕ) where
 pub none-small : (l : Tail) → l ≡ noPointer → (l .last .count ≤ 32767) × (l .tables ≤ 1)
 none-small l e = rw e (omega arith, omega arith)
 
-pub none-provides : (b : List ℕ) (p : Places) (l : Tail) (counts : List ℕ) (n : ℕ) → Good b p → length counts ≡ 6 → l ≡ noPointer → Gate (roomTests p b l counts) n → n ≡ 0 → Provided p b noPointer counts
+pub none-provides : (b : List ℕ) (p : Places) (l : Tail) (counts : List ℕ) (n : ℕ) {extra : ℕ → ℕ} → GoodWith extra b p → length counts ≡ 6 → l ≡ noPointer → Gate (roomTests p b l counts) n → n ≡ 0 → ProvidedWith extra p b noPointer counts
 none-provides b p l counts n g six e h z = rw e at (room-provides b p l counts n g six h z)
 
 module _ (b : List ℕ) (counts : List ℕ) (new : New) where

@@ -3,7 +3,7 @@ use mathlib.Core.Path.{refl}
 use mathlib.Core.List.{List}
 use Prim.Native.Nat.{ℕ}
 use Rattle.tables.specs.declared.places.Places.{Places}
-use Rattle.tables.specs.Books.{Good}
+use Rattle.tables.specs.Books.{GoodWith}
 use Rattle.tables.specs.Places.{placesOf}
 use Rattle.allocation.proofs.HeldLawful.{quiet-good}
 use Rattle.files.specs.Release.{released}
@@ -13,11 +13,11 @@ use Rattle.requests.proofs.RequestLaws.{done-keeps}
 use Rattle.requests.proofs.StateLaws.{recover-asks}
 
 -- README's promise 3, "the nine book rules still hold": after actual delete
-pub deleted-keeps : (b : List ℕ) (id : ℕ) (date : List ℕ) (r : ℕ) (b' : List ℕ) (p : Places) → Good b p → Deleted b id date r b' → Good b' p
+pub deleted-keeps : (b : List ℕ) (id : ℕ) (date : List ℕ) (r : ℕ) (b' : List ℕ) (p : Places) {extra : ℕ → ℕ} → GoodWith extra b p → Deleted b id date r b' → GoodWith extra b' p
 deleted-keeps b id date r b' p g h =
     done-keeps r (released (placesOf b) b id date) b b' p (h .books) (λ z.
     (let q = placesOf b in
-    let good = recover-asks b id date r (h .number) z q refl .0 in
+    let good = rw (g .places) at g in
     let file = recover-asks b id date r (h .number) z q refl .1 in
     rw (g .places) (quiet-good b (released q b id date) q good
     (released-quiet q b (good .layout) (good .lawful) id (file .0) (file .1 .0) date (file .1 .1))

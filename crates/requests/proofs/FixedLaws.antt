@@ -11,7 +11,7 @@ use Rattle.field.specs.Says.{Says}
 use Rattle.field.proofs.Tests.{passed, refused, says-map}
 use Rattle.tables.specs.declared.counts.Chosen.{Chosen}
 use Rattle.tables.specs.declared.counts.Chosen.the-variants.{Types, Bad}
-use Rattle.tables.specs.Blocks.{Typed, blockOf}
+use Rattle.tables.specs.Blocks.{DataType, blockOf}
 use Rattle.tables.specs.Counts.{countsOf, blockBytes, Countable}
 use Rattle.tables.specs.Gates.{Gate}
 use Rattle.tables.proofs.CountsLaws.{bytes-high}
@@ -128,13 +128,13 @@ module _ (name : List ℕ) (cell : Amount) (kind : ℕ) (date : List ℕ) (f : B
 
   pub variable-says : (t : ℕ) → not f ≡ false → t ≡ cellType cell → 3 ≤ t → Says (leb t 8) (VariableAllowed name cell kind date)
   variable-says t h is low =
-      le-says (VariableAllowed name cell kind date) t 8 (λ l. record { file = passed f file h; cell' = rw (← is) (record { low = low; high = l }) }) (λ a. let k : Typed t = rw is (a .cell') in k .high)
+      le-says (VariableAllowed name cell kind date) t 8 (λ l. record { file = passed f file h; cell' = rw (← is) (record { low = low; high = l }) }) (λ a. let k : DataType t = rw is (a .cell') in k .high)
 
 module _ (b name : List ℕ) (cell : Amount) (kind : ℕ) (date : List ℕ) (a : Bool) (s : Says a (VariableAllowed name cell kind date)) (n : ℕ) (g : Gate (argumentTests b (a ≡ true)) n) (e : n ≡ 0) where
   variable-allowed : VariableAllowed name cell kind date
   variable-allowed = argument-allowed b _ n (argument-says b a _ n s g) e
 
-  pub variable-typed : (t : ℕ) → t ≡ cellType cell → Typed t
+  pub variable-typed : (t : ℕ) → t ≡ cellType cell → DataType t
   variable-typed t is = rw is (variable-allowed .cell')
 
   pub variable-new : NewFile name kind date

@@ -8,7 +8,7 @@ use Rattle.tables.specs.Views.{viewOf}
 use Rattle.allocation.specs.declared.growth.Cursor.{Cursor}
 use Rattle.allocation.specs.declared.tail.Pushed.{Pushed}
 use Rattle.allocation.specs.declared.tail.Pushed.the-variants.{Joined, Beside, Further}
-use Rattle.allocation.specs.Choice.{inTurn, nextBlock}
+use Rattle.allocation.specs.Choice.{inTurn, choose}
 use Rattle.allocation.specs.Growth.{Growth, pointed, addBlock}
 use Rattle.allocation.specs.Ready.{Ready}
 use Rattle.allocation.proofs.ReadyLaws.{Taking, add-is, laid-is, here-is, further-is, pointed-joined, pointed-beside, pointed-further, here-written, further-extended, ready-proper, step-taking, ready-step}
@@ -23,7 +23,7 @@ flag-pointed p f b c (Further l) ts h = rw (pointed-further p f b c l, further-i
 pub flag-turn : (p : Places) (f : ℕ) (g : Growth) (ts : List ℕ) → Ready p f g ts → flagOf (inTurn (addBlock p f) ts g .books) ≡ flagOf (g .books)
 flag-turn p f g [] h = rw (turn-none (addBlock p f) g) refl
 flag-turn p f g (t ∷ ts) h =
-    let k = nextBlock (viewOf p (g .books)) t in
+    let k = choose (viewOf p (g .books)) (g .cursor .tail) t in
     let add : flagOf (addBlock p f t g .books) ≡ flagOf (g .books) = rw (add-is p f t g, laid-is p f t k g)
     (flag-pointed p f _ (g .cursor) _ ts (step-taking p f g t ts h) ∙ block-files p (g .books) t k (h .layout) (ready-proper p f g t ts h) .counts .flag) in
     rw (turn-step (addBlock p f) t ts g) (flag-turn p f (addBlock p f t g) ts (ready-step p f g t ts h) ∙ add)

@@ -1,7 +1,7 @@
 -- Numbers 1 to 5, and those that begin a mount: each way out, and what no number says.
 use mathlib.Core.Path.{_≡_, refl, sym, _∙_}
 use mathlib.Core.Logic.{_≢_}
-use mathlib.Core.List.{List, []}
+use mathlib.Core.List.{List, [], _++_}
 use Prim.Native.Nat.{ℕ, _≤_}
 use lib.ListN.{length}
 use Rattle.tables.specs.declared.places.Places.{Places}
@@ -9,7 +9,7 @@ use Rattle.tables.specs.Sector1.{flagOf}
 use Rattle.tables.specs.Gates.{Test, Gate}
 use Rattle.tables.specs.Books.{Good, bookTests}
 use Rattle.tables.specs.Places.{placesOf, Layout}
-use Rattle.tables.proofs.GateLaws.{gate-fails, gate-passes, gate-end, gate-front, zero-good, good-gate, bad-gate}
+use Rattle.tables.proofs.GateLaws.{gate-fails, gate-passes, gate-end, gate-stop, gate-skip, gate-front, zero-good, good-gate, bad-gate}
 use Rattle.requests.specs.Answers.{flagTests, useTests}
 use Rattle.requests.proofs.RequestLaws.{good-room}
 use Rattle.examination.specs.declared.check.Checked.{Checked}
@@ -56,3 +56,14 @@ module _ (b : List ℕ) where
 
     pub use-layout : (p : Places) → p ≡ placesOf b → Layout p (length b)
     use-layout p is = use-good p is .layout
+
+  -- tests after these
+  module _ (ts : List Test) where
+    pub use-stops : (n : ℕ) → Gate (useTests b) n → n ≢ 0 → Gate (useTests b ++ ts) n
+    use-stops n h ne = gate-stop (useTests b) ts n h ne
+
+    pub use-goes : (n r : ℕ) → Gate (useTests b) n → n ≡ 0 → Gate ts r → Gate (useTests b ++ ts) r
+    use-goes n r h e q = gate-skip (useTests b) ts n r h e q
+
+    pub used-good : Gate (useTests b ++ ts) 0 → Good b (placesOf b)
+    used-good h = use-good 0 (gate-front (useTests b) ts h) refl (placesOf b) refl

@@ -23,6 +23,7 @@ pub mod WriteLaws
 pub mod WriteKeeps
 pub mod ActiveLaws
 pub mod ArgumentLaws
+pub mod BodyLaws
 pub mod DeleteKeeps
 pub mod JudgedLaws
 pub mod LongerLaws

@@ -10,7 +10,7 @@ use Rattle.tables.specs.declared.places.Places.{Places}
 use Rattle.tables.specs.declared.kinds.Sector.{Sector}
 use Rattle.tables.specs.Places.{placesOf}
 use Rattle.tables.specs.Gates.{Test, asks, Gate}
-use Rattle.tables.specs.Books.{Good}
+use Rattle.tables.specs.Books.{Good, GoodWith}
 use Rattle.tables.specs.Rules.R8.{fileSectors}
 use Rattle.tables.specs.Views.{viewOf, Parent}
 use Rattle.tables.proofs.GateLaws.{gate-one, gate-fails, gate-passes, gate-end, gate-stop, gate-skip, gate-rest, gate-head, gate-front}
@@ -23,52 +23,41 @@ use Rattle.requests.specs.declared.locate.Located.{Located}
 use Rattle.requests.specs.declared.locate.Located.the-variants.{At, Refused}
 use Rattle.requests.specs.declared.show.Part.{Part}
 use Rattle.requests.specs.Answers.{useTests}
-use Rattle.requests.specs.Named.{namedTests}
-use Rattle.requests.specs.Body.{BodySized, bodyTests}
+use Rattle.requests.specs.Named.{namedTests, usableTests}
+use Rattle.requests.specs.Body.{BodySized}
 use Rattle.requests.specs.Locate.{HasSector, locateTests, numberOf, locatedAs, Locates, kthOf}
 use Rattle.requests.specs.Show.{showTests, partOf, ShownAt, bytesOf, Shown}
 use Rattle.requests.proofs.RequestLaws.{good-room}
-use Rattle.requests.proofs.NamedLaws.{state-file, usable-active, body-usable}
-use Rattle.requests.proofs.JudgedLaws.{use-good}
+use Rattle.requests.proofs.NamedLaws.{state-file, usable-active}
+use Rattle.requests.proofs.JudgedLaws.{used-good}
 
--- ---- tests between those and 14
+-- ---- tests ts, then 14
 
 module _ (b : List ℕ) (id k : ℕ) (ts : List Test) where
   abbrev pub sectorTests : List Test
-  sectorTests = useTests b ++ (ts ++ (asks 14 (HasSector b id k) ∷ []))
+  sectorTests = ts ++ (asks 14 (HasSector b id k) ∷ [])
 
-  module _ (n : ℕ) (h : Gate (useTests b) n) where
-    pub sector-stops : n ≢ 0 → Gate sectorTests n
-    sector-stops ne = gate-stop (useTests b) _ n h ne
+  module _ (m : ℕ) (q : Gate ts m) where
+    pub sector-refused : m ≢ 0 → Gate sectorTests m
+    sector-refused ne = gate-stop ts _ m q ne
 
-    module _ (e : n ≡ 0) (m : ℕ) (q : Gate ts m) where
-      pub sector-refused : m ≢ 0 → Gate sectorTests m
-      sector-refused ne = gate-skip (useTests b) _ n m h e (gate-stop ts _ m q ne)
+    module _ (z : m ≡ 0) (p : Places) (is : p ≡ placesOf b) (s : ℕ) (has : s ≡ fileSectors (viewOf p b) id) where
+      count : s ≡ fileSectors (viewOf (placesOf b) b) id
+      count = has ∙ ap (λ (x : Places). fileSectors (viewOf x b) id) is
 
-      module _ (z : m ≡ 0) (p : Places) (is : p ≡ placesOf b) (s : ℕ) (has : s ≡ fileSectors (viewOf p b) id) where
-        count : s ≡ fileSectors (viewOf (placesOf b) b) id
-        count = has ∙ ap (λ (x : Places). fileSectors (viewOf x b) id) is
+      pub sector-past : s ≤ k → Gate sectorTests 14
+      sector-past le = gate-skip ts _ m 14 q z (gate-fails 14 _ [] (omega arith) (λ lt. omega (arith, count)))
 
-        pub sector-past : s ≤ k → Gate sectorTests 14
-        sector-past le = gate-skip (useTests b) _ n 14 h e (gate-skip ts _ m 14 q z (gate-fails 14 _ [] (omega arith) (λ lt. omega (arith, count))))
-
-        pub sector-fine : k < s → Gate sectorTests 0
-        sector-fine lt = gate-skip (useTests b) _ n 0 h e (gate-skip ts _ m 0 q z (gate-passes 14 _ [] 0 (omega (arith, count)) gate-end))
+      pub sector-fine : k < s → Gate sectorTests 0
+      sector-fine lt = gate-skip ts _ m 0 q z (gate-passes 14 _ [] 0 (omega (arith, count)) gate-end)
 
   -- where no number applies
-  module _ (h : Gate sectorTests 0) where
-    sector-good : Good b (placesOf b)
-    sector-good = use-good b 0 (gate-front (useTests b) _ h) refl (placesOf b) refl
-
-    sector-file : Gate ts 0
-    sector-file = gate-front ts _ (gate-rest (useTests b) _ h)
-
-    sector-has : HasSector b id k
-    sector-has = gate-head 14 _ [] (gate-rest ts _ (gate-rest (useTests b) _ h)) .0
+  sector-has : Gate sectorTests 0 → Gate ts 0 × HasSector b id k
+  sector-has h = (gate-front ts _ h, gate-head 14 _ [] (gate-rest ts _ h) .0)
 
 -- ---- the k-th sector
 
-module _ (b : List ℕ) (p : Places) (f k : ℕ) (g : Good b p) (parent : Parent (viewOf p b) f) (has : k < fileSectors (viewOf p b) f) where
+module _ (b : List ℕ) (p : Places) (f k : ℕ) {extra : ℕ → ℕ} (g : GoodWith extra b p) (parent : Parent (viewOf p b) f) (has : k < fileSectors (viewOf p b) f) where
   module _ (c : Spot) (at : c ≡ spotOf (viewOf p b) f k) where
     pub kth-on : OnSector (viewOf p b) c
     kth-on = rw at (spot-on p b (g .layout) (g .lawful) f parent k has)
@@ -87,16 +76,19 @@ locate-refused b id k zero h ne = absurd (ne refl)
 locate-refused b id k (suc n) h ne = record { number = h; answer = refl }
 
 module _ (b : List ℕ) (id k n : ℕ) (h : Gate (locateTests b id k) n) (e : n ≡ 0) where
-  pub locate-room : 2048 ≤ length b
+  locate-file : Good b (placesOf b) × (Parent (viewOf (placesOf b) b) id × HasSector b id k)
   unfolding locateTests
-  locate-room = good-room b (placesOf b) (sector-good b id k (namedTests b id) (rw e at h))
+  locate-file =
+      let q : Gate (locateTests b id k) 0 = rw e at h in
+      let s = sector-has b id k (namedTests b id) (gate-rest (useTests b) _ q) in
+      (used-good b _ q, (state-file b id 0 (s .0) .0, s .1))
+
+  pub locate-room : 2048 ≤ length b
+  locate-room = good-room b (placesOf b) (locate-file .0)
 
   module _ (p : Places) (is : p ≡ placesOf b) where
     pub locate-asks : Good b p × (Parent (viewOf p b) id × (k < fileSectors (viewOf p b) id))
-    unfolding locateTests
-    locate-asks =
-        let q : Gate (locateTests b id k) 0 = rw e at h in
-        rw is (sector-good b id k (namedTests b id) q, (state-file b id 0 (sector-file b id k (namedTests b id) q) .0, sector-has b id k (namedTests b id) q))
+    locate-asks = rw is locate-file
 
     pub locate-done : (s : Sector) → s .0 ≡ kthSector (viewOf p b) id k → Locates b id k (At s)
     locate-done s at = record { number = rw e at h; answer = ap (λ (x : ℕ). At (record { 0 = x })) (at ∙ ap (λ (x : Places). kthSector (viewOf x b) id k) is) }
@@ -109,22 +101,20 @@ show-refused b body id k (suc n) h ne = record { number = suc n; gate = h; part 
 
 module _ (b body : List ℕ) (id k : ℕ) where
   module _ (h : Gate (showTests b body id k) 0) where
-    show-sized : BodySized b body
+    rest : BodySized b body × Gate (sectorTests b id k (usableTests 8 b id)) 0
     unfolding showTests
-    show-sized = body-usable 8 b body id (sector-file b id k (bodyTests 8 b body id) h) .0
+    rest = gate-head 15 (BodySized b body) _ (gate-rest (useTests b) _ h)
 
     show-file : Good b (placesOf b) × (Parent (viewOf (placesOf b) b) id × HasSector b id k)
     unfolding showTests
-    show-file =
-        let ts = bodyTests 8 b body id in
-        (sector-good b id k ts h, (usable-active 8 b id (body-usable 8 b body id (sector-file b id k ts h) .1) .0, sector-has b id k ts h))
+    show-file = let s = sector-has b id k (usableTests 8 b id) (rest .1) in (used-good b _ h, (usable-active 8 b id (s .0) .0, s .1))
 
     -- its sector lies in the body
     show-inside : bodyPlace (kthOf b id k) + 1024 ≤ length body
     show-inside =
         let g = show-file .0 in
         let s = kth-inside (placesOf b) b (g .layout) (g .lawful) id (show-file .1 .0) k (show-file .1 .1) in
-        omega (arith, s .0, s .1, show-sized, g .layout .least)
+        omega (arith, s .0, s .1, rest .0, g .layout .least)
 
   module _ (n : ℕ) (h : Gate (showTests b body id k) n) (e : n ≡ 0) where
     pub show-room : 2048 ≤ length b

@@ -10,16 +10,16 @@ use Rattle.tables.specs.declared.places.Places.{Places}
 use Rattle.tables.specs.Indexes.{tableAt, lengthOf}
 use Rattle.tables.specs.Places.{placesOf, Layout}
 use Rattle.tables.specs.Gates.{Gate}
-use Rattle.tables.specs.Books.{Good}
+use Rattle.tables.specs.Books.{Good, GoodWith}
 use Rattle.tables.specs.Rules.R8.{fileType}
 use Rattle.tables.specs.Views.{viewOf, Parent}
 use Rattle.tables.proofs.GateLaws.{gate-passes, gate-end, gate-head}
-use Rattle.tables.specs.Blocks.{Typed}
+use Rattle.tables.specs.Blocks.{DataType}
 use Rattle.allocation.proofs.SizeLaws.{type-typed}
 use Rattle.allocation.proofs.FileLaws.{cursor-bounds, length-only}
 use Rattle.allocation.specs.declared.growth.Cursor.{Cursor}
 use Rattle.allocation.specs.Last.{cursorOf}
-use Rattle.allocation.specs.MadeFiles.{onlyCounts, Provided, blocksFor, grown}
+use Rattle.allocation.specs.MadeFiles.{onlyCounts, Provided, blocksFor, grown, ProvidedWith}
 use Rattle.requests.specs.Create.{roomTests}
 use Rattle.requests.specs.Named.{fileBytes}
 use Rattle.requests.specs.Grow.{growCounts, lackTests, grownTo}
@@ -27,17 +27,17 @@ use Rattle.requests.proofs.RoomNumberLaws.{room-provides}
 
 -- ---- 12 and 13, where the file becomes longer
 
-pub counts-typed : (b : List ℕ) (p : Places) (id t : ℕ) → Good b p → Parent (viewOf p b) id → t ≡ fileType (viewOf p b) id → Typed t
+pub counts-typed : (b : List ℕ) (p : Places) (id t : ℕ) {extra : ℕ → ℕ} → GoodWith extra b p → Parent (viewOf p b) id → t ≡ fileType (viewOf p b) id → DataType t
 counts-typed b p id t g parent e = type-typed (viewOf p b) id t (g .lawful .r6) parent e
 
 -- where a file goes on, its last pointer is lawful
-pub cursor-small : (b : List ℕ) (p : Places) (id : ℕ) (c : Cursor) → Good b p → Parent (viewOf p b) id → c ≡ cursorOf p b id → (c .tail .last .count ≤ 32767) × (c .tail .tables ≤ 1)
+pub cursor-small : (b : List ℕ) (p : Places) (id : ℕ) (c : Cursor) {extra : ℕ → ℕ} → GoodWith extra b p → Parent (viewOf p b) id → c ≡ cursorOf p b id → (c .tail .last .count ≤ 32767) × (c .tail .tables ≤ 1)
 cursor-small b p id c g parent e = rw e (cursor-bounds p b id (g .layout) (g .lawful) parent)
 
-pub counts-are : (b : List ℕ) (p : Places) (id long t n : ℕ) (c : List ℕ) → Good b p → t ≡ fileType (viewOf p b) id → n ≡ blocksFor (viewOf p b) id long → c ≡ onlyCounts t n → c ≡ growCounts b id long
+pub counts-are : (b : List ℕ) (p : Places) (id long t n : ℕ) (c : List ℕ) {extra : ℕ → ℕ} → GoodWith extra b p → t ≡ fileType (viewOf p b) id → n ≡ blocksFor (viewOf p b) id long → c ≡ onlyCounts t n → c ≡ growCounts b id long
 counts-are b p id long t n c g e f h = rw (h, e, f, g .places)
 
-module _ (b : List ℕ) (p : Places) (id long n : ℕ) (g : Good b p) (t : List ℕ) (bytes : t ≡ tableAt p b id) (is : n ≡ lengthOf t) where
+module _ (b : List ℕ) (p : Places) (id long n : ℕ) {extra : ℕ → ℕ} (g : GoodWith extra b p) (t : List ℕ) (bytes : t ≡ tableAt p b id) (is : n ≡ lengthOf t) where
   length-is : n ≡ lengthOf (fileBytes b id)
   length-is = is ∙ ap lengthOf bytes ∙ ap (λ (q : Places). lengthOf (tableAt q b id)) (g .places)
 
@@ -56,7 +56,7 @@ module _ (b : List ℕ) (p : Places) (id long n : ℕ) (g : Good b p) (t : List 
 
 module _ (b : List ℕ) (id long : ℕ) where
   -- where neither 12 nor 13 applies, and the file becomes longer, there is all that it takes
-  pub lack-provided : Good b (placesOf b) → Gate (lackTests b id long) 0 → lengthOf (fileBytes b id) < long → Provided (placesOf b) b (cursorOf (placesOf b) b id .tail) (growCounts b id long)
+  pub lack-provided : {extra : ℕ → ℕ} → GoodWith extra b (placesOf b) → Gate (lackTests b id long) 0 → lengthOf (fileBytes b id) < long → ProvidedWith extra (placesOf b) b (cursorOf (placesOf b) b id .tail) (growCounts b id long)
   unfolding lackTests roomTests
   lack-provided g h lt =
       let s = gate-head 12 _ _ h in

@@ -11,7 +11,7 @@ use Rattle.field.proofs.NumberLaws.{u16-kept, u32-kept, kept-putU16, u16-put-sa
 use Rattle.tables.specs.declared.places.Places.{Places}
 use Rattle.tables.specs.Sector1.{flagOf, putFlag}
 use Rattle.tables.specs.Views.{viewOf}
-use Rattle.tables.specs.Books.{Good}
+use Rattle.tables.specs.Books.{GoodWith}
 use Rattle.tables.proofs.SameLaws.{same-R9}
 use Rattle.tables.proofs.FrameLaws.{sector1-same, sector1-good}
 use Rattle.requests.specs.Mount.{Mounted, Dismounted}
@@ -24,7 +24,7 @@ kept-flag b f = kept-putU16 b 1054 f
 pub flag-put : (b : List ℕ) (f : ℕ) → 2048 ≤ length b → flagOf (putFlag b f) ≡ f
 flag-put b f room = u16-put-same b 1054 f (omega arith)
 
-pub flag-keeps : (b : List ℕ) (p : Places) (f : ℕ) → f ≤ 1 → Good b p → Good (putFlag b f) p
+pub flag-keeps : (b : List ℕ) (p : Places) (f : ℕ) {extra : ℕ → ℕ} → f ≤ 1 → GoodWith extra b p → GoodWith extra (putFlag b f) p
 flag-keeps b p f few g =
     let b' = putFlag b f in
     let k = kept-flag b f in
@@ -39,8 +39,8 @@ flag-keeps b p f few g =
     (omega (arith, flag-put b f (good-room b p g)))
     (g .lawful .r9)) g
 
-pub mounted-keeps : (b : List ℕ) (r : ℕ) (b' : List ℕ) (p : Places) → Mounted b r b' → Good b p → Good b' p
+pub mounted-keeps : (b : List ℕ) (r : ℕ) (b' : List ℕ) (p : Places) {extra : ℕ → ℕ} → Mounted b r b' → GoodWith extra b p → GoodWith extra b' p
 mounted-keeps b r b' p h g = done-keeps r (putFlag b 1) b b' p (h .books) (λ e. flag-keeps b p 1 (omega arith) g) g
 
-pub dismounted-keeps : (b : List ℕ) (r : ℕ) (b' : List ℕ) (p : Places) → Dismounted b r b' → Good b p → Good b' p
+pub dismounted-keeps : (b : List ℕ) (r : ℕ) (b' : List ℕ) (p : Places) {extra : ℕ → ℕ} → Dismounted b r b' → GoodWith extra b p → GoodWith extra b' p
 dismounted-keeps b r b' p h g = done-keeps r (putFlag b 0) b b' p (h .books) (λ e. flag-keeps b p 0 (omega arith) g) g

@@ -7,7 +7,7 @@ use native.Mathlib.Omega.{arith}
 use lib.Dec.{leb}
 use Rattle.field.specs.Says.{Says}
 use Rattle.tables.specs.declared.places.Places.{Places}
-use Rattle.tables.specs.Books.{Good}
+use Rattle.tables.specs.Books.{GoodWith}
 use Rattle.tables.specs.Indexes.{tableAt, lengthOf}
 use Rattle.tables.specs.Rules.R8.{fileSectors, File}
 use Rattle.tables.specs.Views.{viewOf, Parent}
@@ -35,14 +35,14 @@ module _ (position long : Amount) (room : ℕ) where
 -- ---- the end
 
 -- the file as the rules have it
-pub file-here : (b : List ℕ) (p : Places) (id : ℕ) → Good b p → Parent (viewOf p b) id → File (viewOf p b) id (tableAt p b id)
+pub file-here : (b : List ℕ) (p : Places) (id : ℕ) {extra : ℕ → ℕ} → GoodWith extra b p → Parent (viewOf p b) id → File (viewOf p b) id (tableAt p b id)
 file-here b p id g parent = g .lawful .r8 id (omega (arith, parent .high)) (parent .low) (parent .word)
 
 -- the end is within the file's sectors
-pub end-within : (b : List ℕ) (p : Places) (id : ℕ) → Good b p → Parent (viewOf p b) id → endOf b id ≤ 1024 * fileSectors (viewOf p b) id
+pub end-within : (b : List ℕ) (p : Places) (id : ℕ) {extra : ℕ → ℕ} → GoodWith extra b p → Parent (viewOf p b) id → endOf b id ≤ 1024 * fileSectors (viewOf p b) id
 end-within b p id g parent = let most = file-here b p id g parent .most in omega (arith, ap (λ (q : Places). lengthOf (tableAt q b id)) (g .places))
 
-module _ (b : List ℕ) (p : Places) (id : ℕ) (g : Good b p) (parent : Parent (viewOf p b) id) (t : List ℕ) (bytes : t ≡ tableAt p b id) (n : ℕ) (is : n ≡ lengthOf t) where
+module _ (b : List ℕ) (p : Places) (id : ℕ) {extra : ℕ → ℕ} (g : GoodWith extra b p) (parent : Parent (viewOf p b) id) (t : List ℕ) (bytes : t ≡ tableAt p b id) (n : ℕ) (is : n ≡ lengthOf t) where
   end-small : n < 2147483648
   end-small = rw (is, bytes) (file-here b p id g parent .least)
 

@@ -1,13 +1,12 @@
--- Requests that name a file, and those that take the body: each way out of numbers 15, 8, 9 and 10, and what no number says.
+-- Requests that name a file: each way out of numbers 8, 9 and 10, and what no number says.
 use mathlib.Core.Path.{_≡_, sym, ap, _∙_}
 use mathlib.Core.Logic.{_≢_}
 use mathlib.Core.Bool.{Bool, not, true, false}
 use mathlib.Core.List.{List, [], _∷_}
-use Prim.Native.Nat.{ℕ, _-_, _*_, _/_, _%_, _≤_, _<_}
+use Prim.Native.Nat.{ℕ, _/_, _%_, _≤_, _<_}
 use native.Mathlib.Omega.{arith}
 use borrow.Author.Tests.{not-true, not-false}
 use lib.Dec.{eqb}
-use lib.ListN.{length}
 use Rattle.field.specs.Says.{Says}
 use Rattle.field.proofs.Tests.{passed, refused, says-eq}
 use Rattle.tables.specs.declared.entry.Entry.{Entry}
@@ -16,18 +15,17 @@ use Rattle.tables.specs.Entries.{entryOf, isParent, isVariable}
 use Rattle.tables.specs.Indexes.{tableAt, wordOf, attributeOf, deletedBit}
 use Rattle.tables.specs.Places.{placesOf}
 use Rattle.tables.specs.Gates.{asks, Gate}
-use Rattle.tables.specs.Books.{Good}
+use Rattle.tables.specs.Books.{Good, GoodWith}
 use Rattle.tables.specs.Views.{viewOf, Parent}
 use Rattle.tables.proofs.GateLaws.{gate-fails, gate-passes, gate-end, gate-stop, gate-skip, gate-head, gate-front, gate-swap}
 use Rattle.requests.specs.Answers.{useTests, argumentTests}
 use Rattle.requests.specs.Named.{fileBytes, stateTests, namedTests, Unprotected, askedTests, usableTests, VariableSize}
-use Rattle.requests.specs.Body.{BodySized, bodyTests}
 use Rattle.requests.proofs.ArgumentLaws.{says-this, this-says}
 use Rattle.tables.proofs.KindLaws.{parent-word, not-parent, variable-bit, not-variable, entry-attribute}
 
 -- ---- 8 and 9
 
-module _ (b : List ℕ) (p : Places) (id : ℕ) (g : Good b p) where
+module _ (b : List ℕ) (p : Places) (id : ℕ) {extra : ℕ → ℕ} (g : GoodWith extra b p) where
   -- what the code reads: the file's table, by its bytes or decoded
   places-read : tableAt p b id ≡ fileBytes b id
   places-read = ap (λ (q : Places). tableAt q b id) (g .places)
@@ -76,7 +74,7 @@ module _ (b : List ℕ) (id : ℕ) where
   unfolding stateTests
   state-file d h = let s = gate-head 8 (Parent (viewOf (placesOf b) b) id) _ h in (s .0, gate-head 9 _ [] (s .1) .0)
 
-  module _ (p : Places) (n : ℕ) (g : Good b p) (h : Gate (namedTests b id) n) (e : n ≡ 0) where
+  module _ (p : Places) (n : ℕ) {extra : ℕ → ℕ} (g : GoodWith extra b p) (h : Gate (namedTests b id) n) (e : n ≡ 0) where
     pub named-parent : Parent (viewOf p b) id
     named-parent = rw (g .places) (state-file 0 (rw e at h) .0)
 
@@ -97,10 +95,10 @@ module _ (d : ℕ) (b : List ℕ) (id : ℕ) where
 
 -- ---- a file's weights
 
-pub weight-says : (w : ℕ) (b : List ℕ) (p : Places) (id : ℕ) (t : List ℕ) (a : ℕ) → Good b p → t ≡ tableAt p b id → a ≡ attributeOf t → Says (eqb (a / w % 2) 0) (Unprotected w b id)
+pub weight-says : (w : ℕ) (b : List ℕ) (p : Places) (id : ℕ) (t : List ℕ) (a : ℕ) {extra : ℕ → ℕ} → GoodWith extra b p → t ≡ tableAt p b id → a ≡ attributeOf t → Says (eqb (a / w % 2) 0) (Unprotected w b id)
 weight-says w b p id t a g is read = let e = ap (λ (x : ℕ). x / w % 2) (attribute-read b p id g t is a read) in says-eq (a / w % 2) 0 (λ z. sym e ∙ z) (λ z. e ∙ z)
 
-module _ (b : List ℕ) (p : Places) (id : ℕ) (g : Good b p) (parent : Parent (viewOf p b) id) (e : Entry) (is : e ≡ entryOf id (tableAt p b id)) where
+module _ (b : List ℕ) (p : Places) (id : ℕ) {extra : ℕ → ℕ} (g : GoodWith extra b p) (parent : Parent (viewOf p b) id) (e : Entry) (is : e ≡ entryOf id (tableAt p b id)) where
   own : wordOf (fileBytes b id) ≡ id
   own = rw (← g .places) (parent .word)
 
@@ -118,7 +116,7 @@ module _ (w : ℕ) (b : List ℕ) (id : ℕ) where
 
     module _ (e : n ≡ 0) where
       -- what testing its weight asks
-      pub usable-file : (p : Places) → Good b p → Parent (viewOf p b) id
+      pub usable-file : (p : Places) {extra : ℕ → ℕ} → GoodWith extra b p → Parent (viewOf p b) id
       usable-file p g = named-parent b id p n g h e
 
       pub usable-fine : Unprotected w b id → Gate (usableTests w b id) 0
@@ -138,26 +136,6 @@ module _ (w : ℕ) (b : List ℕ) (id : ℕ) where
     unfolding usableTests
     usable-active = state-file b id 0 (gate-front (namedTests b id) _ h)
 
--- ---- 15, 8, 9 and 10
-
-module _ (w : ℕ) (b body : List ℕ) (id : ℕ) where
-  module _ (p : Places) (g : Good b p) where
-    size : 1048576 * (p .zones - 2) ≡ 1048576 * (placesOf b .zones - 2)
-    size = ap (λ (q : Places). 1048576 * (q .zones - 2)) (g .places)
-
-    pub body-other : length body ≢ 1048576 * (p .zones - 2) → Gate (bodyTests w b body id) 15
-    unfolding bodyTests
-    body-other ne = gate-fails 15 _ _ (omega arith) (λ s. ne (s ∙ sym size))
-
-    pub body-goes : (r : ℕ) → length body ≡ 1048576 * (p .zones - 2) → Gate (usableTests w b id) r → Gate (bodyTests w b body id) r
-    unfolding bodyTests
-    body-goes r e h = gate-passes 15 _ _ r (e ∙ size) h
-
-  -- the body has its length, and the file may be used
-  pub body-usable : Gate (bodyTests w b body id) 0 → BodySized b body × Gate (usableTests w b id) 0
-  unfolding bodyTests
-  body-usable h = gate-head 15 (BodySized b body) _ h
-
--- where none of 15, 8, 9 and 10 applies, there is one
-pub body-parent : (w : ℕ) (b body : List ℕ) (id : ℕ) (p : Places) (m : ℕ) → Good b p → Gate (bodyTests w b body id) m → m ≡ 0 → Parent (viewOf p b) id
-body-parent w b body id p m g h e = rw (g .places) (usable-active w b id (body-usable w b body id (rw e at h) .1) .0)
+  module _ (p : Places) (n : ℕ) (g : Good b p) (h : Gate (usableTests w b id) n) (e : n ≡ 0) where
+    pub usable-parent : Parent (viewOf p b) id
+    usable-parent = rw (g .places) (usable-active (rw e at h) .0)

@@ -2,7 +2,7 @@
 use mathlib.Core.Path.{_≡_, refl, sym, ap, _∙_}
 use mathlib.Core.Logic.{_≢_}
 use mathlib.Core.Bool.{Bool, true, false, cond}
-use mathlib.Core.List.{List, [], _∷_}
+use mathlib.Core.List.{List, [], _∷_, _++_}
 use Prim.Native.Nat.{ℕ, zero, suc, _-_, _*_, _/_, _≤_, _<_}
 use native.Mathlib.Omega.{arith}
 use lib.Dec.{leb}
@@ -11,7 +11,7 @@ use borrow.Author.Tests.{le-leb, lt-leb, leb-true, leb-false}
 use Rattle.field.specs.Says.{Says}
 use Rattle.tables.specs.declared.places.Places.{Places}
 use Rattle.tables.specs.Books.{Good}
-use Rattle.tables.specs.Gates.{asks, Gate}
+use Rattle.tables.specs.Gates.{Test, asks, Gate}
 use Rattle.tables.specs.Places.{placesOf, Layout}
 use Rattle.tables.specs.Lawful.{Lawful}
 use Rattle.tables.specs.Views.{viewOf, Parent}
@@ -21,13 +21,14 @@ use Rattle.requests.specs.declared.amount.Amount.{Amount}
 use Rattle.requests.specs.declared.answer.Answer.{Answer}
 use Rattle.requests.specs.declared.answer.Answer.the-variants.{Done, Refused}
 use Rattle.requests.specs.Answers.{numberOf, argumentTests}
-use Rattle.requests.specs.Body.{bodyTests}
+use Rattle.requests.specs.Body.{BodySized, bodyTest}
 use Rattle.requests.specs.Amounts.{amountValue}
 use Rattle.requests.specs.Read.{readTests, readAmount, ReadOut}
 use Rattle.requests.specs.Moving.{wholeSectors, endOf, MoveAllowed}
+use Rattle.requests.specs.Named.{usableTests}
 use Rattle.requests.proofs.RequestLaws.{after-one, answers-one}
 use Rattle.requests.proofs.ArgumentLaws.{argument-says, argument-allowed, argument-good, argument-room}
-use Rattle.requests.proofs.NamedLaws.{body-usable, body-parent}
+use Rattle.requests.proofs.NamedLaws.{usable-parent}
 use Rattle.requests.proofs.MovingLaws.{end-within}
 
 -- ---- the amount
@@ -53,27 +54,31 @@ amount-most b id at long = go (leb (wholeSectors long) (endOf b id - at)) refl
 
 -- ---- the request
 
+-- 8, 9, 10, then 14
+module _ (b : List ℕ) (id : ℕ) (position : Amount) where
+  abbrev pub endTests : List Test
+  endTests = usableTests 8 b id ++ (asks 14 (amountValue position < endOf b id) ∷ [])
+
+  module _ (m : ℕ) (h : Gate (usableTests 8 b id) m) where
+    pub read-unusable : m ≢ 0 → Gate endTests m
+    read-unusable ne = gate-stop (usableTests 8 b id) _ m h ne
+
+    module _ (z : m ≡ 0) (x end : ℕ) (is : x ≡ amountValue position) (ends : end ≡ endOf b id) where
+      pub read-past : end ≤ x → Gate endTests 14
+      read-past l = gate-skip (usableTests 8 b id) _ m 14 h z (gate-fails 14 _ [] (omega arith) (λ k. omega arith))
+
+      pub read-fine : x < end → Gate endTests 0
+      read-fine l = gate-skip (usableTests 8 b id) _ m 0 h z (gate-passes 14 _ [] 0 (omega arith) gate-end)
+
 module _ (b body : List ℕ) (id : ℕ) (position long : Amount) (room : ℕ) where
   module _ (a : Bool) (n : ℕ) (s : Says a (MoveAllowed position long room)) (g : Gate (argumentTests b (a ≡ true)) n) where
     pub read-stops : n ≢ 0 → Gate (readTests b body id position long room) n
     unfolding readTests
     read-stops ne = gate-stop (argumentTests b (MoveAllowed position long room)) _ n (argument-says b a _ n s g) ne
 
-    module _ (e : n ≡ 0) (m : ℕ) (h : Gate (bodyTests 8 b body id) m) where
-      pub read-unusable : m ≢ 0 → Gate (readTests b body id position long room) m
-      unfolding readTests
-      read-unusable ne = gate-skip (argumentTests b (MoveAllowed position long room)) _ n m (argument-says b a _ n s g) e (gate-stop (bodyTests 8 b body id) _ m h ne)
-
-      module _ (z : m ≡ 0) (x end : ℕ) (is : x ≡ amountValue position) (ends : end ≡ endOf b id) where
-        usable : (r : ℕ) → Gate (asks 14 (amountValue position < endOf b id) ∷ []) r → Gate (readTests b body id position long room) r
-        unfolding readTests
-        usable r q = gate-skip (argumentTests b (MoveAllowed position long room)) _ n r (argument-says b a _ n s g) e (gate-skip (bodyTests 8 b body id) _ m r h z q)
-
-        pub read-past : end ≤ x → Gate (readTests b body id position long room) 14
-        read-past l = usable 14 (gate-fails 14 _ [] (omega arith) (λ k. omega arith))
-
-        pub read-fine : x < end → Gate (readTests b body id position long room) 0
-        read-fine l = usable 0 (gate-passes 14 _ [] 0 (omega arith) gate-end)
+    pub read-goes : (r : ℕ) → n ≡ 0 → Gate (bodyTest b body ∷ endTests b id position) r → Gate (readTests b body id position long room) r
+    unfolding readTests
+    read-goes r e h = gate-skip (argumentTests b (MoveAllowed position long room)) _ n r (argument-says b a _ n s g) e h
 
   -- what a number 0 says
   module _ (n : ℕ) (h : Gate (readTests b body id position long room) n) (e : n ≡ 0) where
@@ -81,11 +86,9 @@ module _ (b body : List ℕ) (id : ℕ) (position long : Amount) (room : ℕ) wh
     unfolding readTests
     front = gate-front (argumentTests b (MoveAllowed position long room)) _ (rw e at h)
 
-    rest : Gate (bodyTests 8 b body id) 0 × (amountValue position < endOf b id)
+    rest : BodySized b body × Gate (endTests b id position) 0
     unfolding readTests
-    rest =
-        let q = gate-rest (argumentTests b (MoveAllowed position long room)) _ (rw e at h) in
-        (gate-front (bodyTests 8 b body id) _ q, gate-head 14 _ [] (gate-rest (bodyTests 8 b body id) _ q) .0)
+    rest = gate-head 15 (BodySized b body) _ (gate-rest (argumentTests b (MoveAllowed position long room)) _ (rw e at h))
 
     pub read-room : 2048 ≤ length b
     read-room = argument-room b _ 0 front refl
@@ -95,7 +98,7 @@ module _ (b body : List ℕ) (id : ℕ) (position long : Amount) (room : ℕ) wh
       read-good = rw is (argument-good b _ 0 front refl)
 
       pub read-parent : Parent (viewOf p b) id
-      read-parent = body-parent 8 b body id p 0 read-good (rest .0) refl
+      read-parent = usable-parent 8 b id p 0 read-good (gate-front (usableTests 8 b id) _ (rest .1)) refl
 
       pub read-layout : Layout p (length b)
       read-layout = read-good .layout
@@ -105,7 +108,7 @@ module _ (b body : List ℕ) (id : ℕ) (position long : Amount) (room : ℕ) wh
 
       module _ (at : ℕ) (place : at ≡ amountValue position) where
         pub read-before : at < endOf b id
-        read-before = rw place (rest .1)
+        read-before = rw place (gate-head 14 _ [] (gate-rest (usableTests 8 b id) _ (rest .1)) .0)
 
         pub read-moves : (x n : ℕ) → x ≡ amountValue long → n ≡ readAmount b id at x → Movable (viewOf p b) id (at / 1024) (n / 1024) room (length body)
         read-moves x n long' amount =
@@ -118,7 +121,7 @@ module _ (b body : List ℕ) (id : ℕ) (position long : Amount) (room : ℕ) wh
               some = omega (arith, read-before);
               within = omega (arith, read-before, few .1);
               buffer = omega (arith, few .0);
-              body' = body-usable 8 b body id (rest .0) .0 ∙ ap (λ (q : Places). 1048576 * (q .zones - 2)) (sym is);
+              body' = rest .0 ∙ ap (λ (q : Places). 1048576 * (q .zones - 2)) (sym is);
             }
 
 module _ (b body : List ℕ) (id : ℕ) (position long : Amount) (x : Bool) (out : List ℕ) where

@@ -15,7 +15,7 @@ use Rattle.tables.specs.Places.{placesOf}
 use Rattle.tables.specs.Views.{View, viewOf}
 use Rattle.tables.specs.Open.{isOpen, openZones}
 use Rattle.tables.specs.Gates.{Gate}
-use Rattle.tables.specs.Books.{Good, bookTests}
+use Rattle.tables.specs.Books.{Good, bookTests, GoodWith}
 use Rattle.tables.proofs.Sector1CountLaws.{only-le}
 use Rattle.tables.proofs.GateLaws.{gate-one, good-zero}
 use Rattle.requests.specs.declared.report.Figures.{Figures}
@@ -79,7 +79,7 @@ open-few : (v : View) → openZones v ≤ v .zones - 2
 unfolding openZones
 open-few v = sum-le (v .zones - 2) _ (λ k l. only-le (isOpen (v .zone (k + 2))) 1)
 
-pub good-small : (b : List ℕ) (p : Places) (f : Figures) → Good b p → f ≡ figuresOf p b → Small f
+pub good-small : (b : List ℕ) (p : Places) (f : Figures) {extra : ℕ → ℕ} → GoodWith extra b p → f ≡ figuresOf p b → Small f
 unfolding usedSectors
 good-small b p f g e =
     let v : View = viewOf p b in

@@ -9,7 +9,7 @@ use Rattle.tables.specs.declared.places.Places.{Places}
 use Rattle.tables.specs.Gates.{Gate}
 use Rattle.examination.specs.declared.check.Checked.{Checked}
 use Rattle.examination.specs.declared.check.Checked.the-variants.{Fine, Refused}
-use Rattle.tables.specs.Books.{Good, bookTests}
+use Rattle.tables.specs.Books.{Good, bookTests, GoodWith}
 use Rattle.examination.specs.Examined.{Examined}
 use Rattle.tables.specs.Rules.R9.{freeOne, activeOne, deletedOne, systemOne, directoryOne}
 use Rattle.tables.specs.Sector1.{activeOf, deletedOf, freeOf, systemOf, directoryOf}
@@ -19,7 +19,7 @@ use Rattle.requests.specs.declared.answer.Answer.{Answer}
 use Rattle.requests.specs.Answers.{after, numberOf, answerOf}
 
 -- books that are good have their two first sectors
-pub good-room : (b : List ℕ) (p : Places) → Good b p → 2048 ≤ length b
+pub good-room : (b : List ℕ) (p : Places) {extra : ℕ → ℕ} → GoodWith extra b p → 2048 ≤ length b
 good-room b p g = omega (arith, g .sized .least)
 
 -- refused: the books are as they were
@@ -28,7 +28,7 @@ after-refused zero new old h = absurd (h refl)
 after-refused (suc k) new old h = refl
 
 -- a request keeps the books good if it does where it is done, for a refusal leaves them as they were
-pub done-keeps : (r : ℕ) (new old b' : List ℕ) (p : Places) → b' ≡ after r new old → (r ≡ 0 → Good new p) → Good old p → Good b' p
+pub done-keeps : (r : ℕ) (new old b' : List ℕ) (p : Places) {extra : ℕ → ℕ} → b' ≡ after r new old → (r ≡ 0 → GoodWith extra new p) → GoodWith extra old p → GoodWith extra b' p
 done-keeps zero new old b' p e h g = rw e (h refl)
 done-keeps (suc k) new old b' p e h g = rw e g
 
@@ -56,7 +56,7 @@ pub record Few (b : List ℕ) : Type 0 where
   pub system : systemOf b ≤ 4096
   pub directory : directoryOf b ≤ 4096
 
-pub good-few : (b : List ℕ) (p : Places) → Good b p → Few b
+pub good-few : (b : List ℕ) (p : Places) {extra : ℕ → ℕ} → GoodWith extra b p → Few b
 good-few b p g =
     let v : View = viewOf p b in
     let r = g .lawful .r9 in

@@ -10,7 +10,7 @@ use Rattle.field.proofs.Tests.{passed, refused}
 use Rattle.tables.specs.declared.places.Places.{Places}
 use Rattle.tables.specs.Sector1.{freeOf}
 use Rattle.tables.specs.Gates.{Gate}
-use Rattle.tables.specs.Books.{Good}
+use Rattle.tables.specs.Books.{GoodWith}
 use Rattle.tables.specs.Room.{countAt, Supply, Enough}
 use Rattle.tables.specs.Views.{viewOf}
 use Rattle.tables.proofs.GateLaws.{gate-fails, gate-passes, gate-end, gate-head}
@@ -20,10 +20,10 @@ use Rattle.allocation.specs.Choice.{inOrder}
 use Rattle.allocation.specs.Plans.{tablesFor}
 use Rattle.allocation.specs.Stock.{Plannable}
 use Rattle.allocation.proofs.FileLaws.{plannable-start}
-use Rattle.allocation.specs.MadeFiles.{TablesEnough, Provided}
+use Rattle.allocation.specs.MadeFiles.{TablesEnough, ProvidedWith}
 use Rattle.requests.specs.Create.{roomTests}
 
-module _ (b : List ℕ) (p : Places) (l : Tail) (counts : List ℕ) (g : Good b p) (r : Bool) (s : Says r (Enough (viewOf p b) (countAt counts))) where
+module _ (b : List ℕ) (p : Places) (l : Tail) (counts : List ℕ) {extra : ℕ → ℕ} (g : GoodWith extra b p) (r : Bool) (s : Says r (Enough (viewOf p b) (countAt counts))) where
   pub room-fails : not r ≡ true → Gate (roomTests p b l counts) 12
   unfolding roomTests
   room-fails h = gate-fails 12 _ _ (omega arith) (λ u. refused r s h (supply-enough (viewOf p b) (g .lawful .r2) (g .lawful .r3) (countAt counts) u))
@@ -45,7 +45,7 @@ module _ (b : List ℕ) (p : Places) (l : Tail) (counts : List ℕ) (g : Good b 
     tables-fit le = gate-passes 12 _ _ 0 supplied (gate-passes 13 _ [] 0 (omega arith) gate-end)
 
 -- where none of them applies there is all that the file takes
-pub room-provides : (b : List ℕ) (p : Places) (l : Tail) (counts : List ℕ) (n : ℕ) → Good b p → length counts ≡ 6 → Gate (roomTests p b l counts) n → n ≡ 0 → Provided p b l counts
+pub room-provides : (b : List ℕ) (p : Places) (l : Tail) (counts : List ℕ) (n : ℕ) {extra : ℕ → ℕ} → GoodWith extra b p → length counts ≡ 6 → Gate (roomTests p b l counts) n → n ≡ 0 → ProvidedWith extra p b l counts
 unfolding roomTests
 room-provides b p l counts n g six h e =
     let s = gate-head 12 (Supply (viewOf p b) (countAt counts)) _ (rw e at h) in

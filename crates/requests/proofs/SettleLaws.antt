@@ -4,7 +4,7 @@ use mathlib.Core.List.{List}
 use Prim.Native.Nat.{ℕ, _/_, _%_}
 use native.Mathlib.Omega.{arith}
 use Rattle.tables.specs.declared.places.Places.{Places}
-use Rattle.tables.specs.Books.{Good}
+use Rattle.tables.specs.Books.{GoodWith}
 use Rattle.tables.specs.Dates.{Date}
 use Rattle.tables.specs.Indexes.{tableAt, lengthOf, attributeOf}
 use Rattle.tables.specs.Places.{placesOf}
@@ -24,15 +24,15 @@ settled-lowest : (a : ℕ) → settled a % 2 ≡ a % 2
 unfolding settled
 settled-lowest a = omega arith
 
--- in good books b' file id is as in b but for its attribute and date
-pub record Settled (b : List ℕ) (id : ℕ) (p : Places) (b' : List ℕ) : Type 0 where
-  pub good : Good b' p
+-- in good books b', with `extra` set besides, file id is as in b but for its attribute and date
+pub record Settled (extra : ℕ → ℕ) (b : List ℕ) (id : ℕ) (p : Places) (b' : List ℕ) : Type 0 where
+  pub good : GoodWith extra b' p
   pub restated : Restated (viewOf p b) (viewOf p b') id
   pub parent : Parent (viewOf p b') id
   pub flag : flagOf b' ≡ flagOf b
   pub long : lengthOf (tableAt p b' id) ≡ lengthOf (tableAt p b id)
 
-settle-here : (b : List ℕ) (id : ℕ) (date : List ℕ) → Good b (placesOf b) → Parent (viewOf (placesOf b) b) id → Date date → Settled b id (placesOf b) (settle b id date)
+settle-here : (b : List ℕ) (id : ℕ) (date : List ℕ) {extra : ℕ → ℕ} → GoodWith extra b (placesOf b) → Parent (viewOf (placesOf b) b) id → Date date → Settled extra b id (placesOf b) (settle b id date)
 unfolding settle
 settle-here b id date g parent valid =
     let p = placesOf b in
@@ -46,5 +46,5 @@ settle-here b id date g parent valid =
       long = put-fields p b b id (settled a) date (g .layout) (same-counted b) (parent .low) (parent .high) (valid .long) .long';
     }
 
-pub settle-keeps : (b : List ℕ) (id : ℕ) (date : List ℕ) (p : Places) → Good b p → Parent (viewOf p b) id → Date date → Settled b id p (settle b id date)
+pub settle-keeps : (b : List ℕ) (id : ℕ) (date : List ℕ) (p : Places) {extra : ℕ → ℕ} → GoodWith extra b p → Parent (viewOf p b) id → Date date → Settled extra b id p (settle b id date)
 settle-keeps b id date p g parent valid = rw (g .places) (settle-here b id date (rw (g .places) at g) (rw (g .places) at parent) valid)

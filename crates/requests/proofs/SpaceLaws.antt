@@ -7,7 +7,7 @@ use Rattle.tables.specs.declared.places.Places.{Places}
 use Rattle.tables.specs.Sector0.{zonesOf}
 use Rattle.tables.specs.Places.{placesOf}
 use Rattle.tables.specs.Gates.{Gate}
-use Rattle.tables.specs.Books.{Good}
+use Rattle.tables.specs.Books.{GoodWith}
 use Rattle.tables.proofs.GateLaws.{gate-one}
 use Rattle.requests.specs.declared.space.Space.{Space}
 use Rattle.requests.specs.declared.space.Space.the-variants.{Is, Refused}
@@ -22,7 +22,7 @@ module _ (b : List ℕ) where
   pub space-fine : (r : Space) → Gate (useTests b) 0 → r ≡ Is (1024 * zonesOf b) (usedSectors (placesOf b) b) → Spaced b r
   space-fine r g e = rw e (record { number = g; answer = refl })
 
-  pub measured : (p : Places) (u : ℕ) → Good b p → u ≡ usedSectors p b → _≡_ {A = Space} (Is (1024 * p .zones) u) (Is (1024 * zonesOf b) (usedSectors (placesOf b) b))
+  pub measured : (p : Places) (u : ℕ) {extra : ℕ → ℕ} → GoodWith extra b p → u ≡ usedSectors p b → _≡_ {A = Space} (Is (1024 * p .zones) u) (Is (1024 * zonesOf b) (usedSectors (placesOf b) b))
   measured p u g e = rw (e, g .places)
 
 -- ---- one result

@@ -10,7 +10,7 @@ use lib.ListN.{length}
 use Rattle.field.proofs.NumberLaws.{u16-kept}
 use Rattle.tables.specs.declared.index.Pointer.{Pointer}
 use Rattle.tables.specs.declared.places.Places.{Places}
-use Rattle.tables.specs.Books.{Good}
+use Rattle.tables.specs.Books.{GoodWith}
 use Rattle.tables.specs.Dates.{Date}
 use Rattle.tables.specs.Places.{placesOf, Layout}
 use Rattle.tables.specs.Sector1.{activeOf, deletedOf, systemOf, directoryOf}
@@ -18,9 +18,9 @@ use Rattle.tables.specs.Indexes.{tableAt, nameOf, createdOf, lengthOf, attribut
 use Rattle.tables.specs.Views.{View, viewOf, Parent}
 use Rattle.tables.specs.Rules.R8.{fileType, InType, File}
 use Rattle.tables.specs.Rules.R9.{R9}
-use Rattle.tables.specs.Lawful.{Lawful}
+use Rattle.tables.specs.Lawful.{LawfulWith}
 use Rattle.tables.proofs.Sector1CountLaws.{Ones, ones-active, ones-deleted}
-use Rattle.allocation.specs.Held.{Held, nothing}
+use Rattle.allocation.specs.Held.{Held}
 use Rattle.allocation.specs.Lengthened.{Quiet}
 use Rattle.allocation.proofs.HeldLawful.{held-rules, quiet-good, quiet-R1, in-one, Fields, fields-file}
 use Rattle.allocation.proofs.RestatedLaws.{Restated, restated-parent, restated-start, restated-count, restated-change, restated-used, restated-sectors, restated-held, restated-types}
@@ -45,7 +45,7 @@ restated-pointer v v' f w few parent i j low high = elim (ℕ-discrete i f) [
 ]
 
 -- all pointers stay, whether the request is done or not
-pub after-pointer : (r : ℕ) (new b b' : List ℕ) (f i j : ℕ) → 1 ≤ i → i ≤ placesOf b .indexes → Good b (placesOf b) → Good b' (placesOf b) → b' ≡ after r new b
+pub after-pointer : (r : ℕ) (new b b' : List ℕ) (f i j : ℕ) {extra : ℕ → ℕ} → 1 ≤ i → i ≤ placesOf b .indexes → GoodWith extra b (placesOf b) → GoodWith extra b' (placesOf b) → b' ≡ after r new b
     → (r ≡ 0 → Parent (viewOf (placesOf b) b) f × Restated (viewOf (placesOf b) b) (viewOf (placesOf b) new) f)
     → pointerIn (viewOf (placesOf b') b') i j ≡ pointerIn (viewOf (placesOf b) b) i j
 after-pointer zero new b b' f i j low high old g e h =
@@ -56,7 +56,7 @@ after-pointer (suc r) new b b' f i j low high old g e h = ap₂ (λ (q : Places)
 
 -- ---- the rules
 
-module _ (p : Places) (b c : List ℕ) (f a : ℕ) (date : List ℕ) (lay : Layout p (length b)) (k : Recounted b c) (old : Lawful p b) (parent : Parent (viewOf p b) f)
+module _ (p : Places) (b c : List ℕ) (f a : ℕ) (date : List ℕ) (lay : Layout p (length b)) (k : Recounted b c) {extra : ℕ → ℕ} (old : LawfulWith extra p b) (parent : Parent (viewOf p b) f)
     (valid : Date date) where
   abbrev d : List ℕ
   d = putState p c f a date
@@ -70,7 +70,7 @@ module _ (p : Places) (b c : List ℕ) (f a : ℕ) (date : List ℕ) (lay : Layo
   now : Parent (viewOf p d) f
   now = restated-parent (viewOf p b) (viewOf p d) f restated parent
 
-  was : Held (viewOf p b) f nothing
+  was : Held (viewOf p b) f extra
   was = rules-held p b f old
 
   was-file : File (viewOf p b) f (tableAt p b f)
@@ -84,7 +84,7 @@ module _ (p : Places) (b c : List ℕ) (f a : ℕ) (date : List ℕ) (lay : Layo
 
   module _ (few : a < 128) (variable : variableBit a ≡ variableBit (attributeOf (tableAt p b f))) (directory : directoryBit a ≡ directoryBit (attributeOf (tableAt p b f)))
       (system : systemBit a ≡ systemBit (attributeOf (tableAt p b f))) (r9 : R9 (viewOf p d)) where
-    held : Held (viewOf p d) f nothing
+    held : Held (viewOf p d) f extra
     held = restated-held (viewOf p b) (viewOf p d) f restated (lay .few) parent was r9
 
     one : variableBit a ≡ 1 → InType (viewOf p d) f (fileType (viewOf p d) f)
@@ -94,7 +94,7 @@ module _ (p : Places) (b c : List ℕ) (f a : ℕ) (date : List ℕ) (lay : Layo
         (restated-types (viewOf p b) (viewOf p d) f restated (lay .few) parent was t (was-file .variable (sym variable ∙ e)))
 
     -- the nine rules of the books whose file f has the attribute a, if the counts are true
-    attributed-lawful : Lawful p d
+    attributed-lawful : LawfulWith extra p d
     attributed-lawful = held-rules p d f (quiet-R1 p b d quiet (old .r1)) held (λ q. used) (λ w.
         fields-file (viewOf p d) f (tableAt p d f) (nameOf (tableAt p b f)) (createdOf (tableAt p b f)) date (lengthOf (tableAt p b f)) a fields
         (was-file .name) (was-file .created) valid (was-file .least) (rw (restated-sectors (viewOf p b) (viewOf p d) f restated (lay .few) parent) (was-file .most))
@@ -155,16 +155,16 @@ protected-active a w fours = omega arith
 
 -- ---- the three requests, done
 
-module _ (p : Places) (b : List ℕ) (f : ℕ) (date : List ℕ) (g : Good b p) (parent : Parent (viewOf p b) f) (valid : Date date) where
+module _ (p : Places) (b : List ℕ) (f : ℕ) (date : List ℕ) {extra : ℕ → ℕ} (g : GoodWith extra b p) (parent : Parent (viewOf p b) f) (valid : Date date) where
   abbrev a : ℕ
   a = attributeOf (tableAt p b f)
 
-  attributed-good : (c : List ℕ) (a' : ℕ) → Recounted b c → Alike a a' → R9 (viewOf p (putState p c f a' date)) → Good (putState p c f a' date) p
+  attributed-good : (c : List ℕ) (a' : ℕ) → Recounted b c → Alike a a' → R9 (viewOf p (putState p c f a' date)) → GoodWith extra (putState p c f a' date) p
   attributed-good c a' k l r9 =
       quiet-good b (putState p c f a' date) p g (quiet p b c f a' date (g .layout) k (g .lawful) parent valid)
       (attributed-lawful p b c f a' date (g .layout) k (g .lawful) parent valid (l .few) (l .variable) (l .directory) (l .system) r9)
 
-  removed-good : deletedBit a ≡ 0 → Good (removed p b f date) p
+  removed-good : deletedBit a ≡ 0 → GoodWith extra (removed p b f date) p
   unfolding removed
   removed-good e =
       let m = activeOf b - 1 in
@@ -183,7 +183,7 @@ module _ (p : Places) (b : List ℕ) (f : ℕ) (date : List ℕ) (g : Good b p) 
       (omega (arith, q .system', system-some b p g f parent e))
       (omega (arith, q .directory', directory-some b p g f parent e)))
 
-  recovered-good : deletedBit a ≡ 1 → Good (recovered p b f date) p
+  recovered-good : deletedBit a ≡ 1 → GoodWith extra (recovered p b f date) p
   unfolding recovered
   recovered-good e =
       let m = activeOf b + 1 in
@@ -208,7 +208,7 @@ module _ (p : Places) (b : List ℕ) (f : ℕ) (date : List ℕ) (g : Good b p) 
     same : Recounted b b
     same = same-counted b
 
-    pub steady-good : Good (putState p b f a' date) p
+    pub steady-good : GoodWith extra (putState p b f a' date) p
     steady-good =
         let l = alike-above a a' (weights-few b p g f parent) above in
         let count = recounted p b b f a' date (g .layout) same (g .lawful) parent valid in
@@ -219,30 +219,30 @@ module _ (p : Places) (b : List ℕ) (f : ℕ) (date : List ℕ) (g : Good b p) 
               (now-deleted p b b f a' date (g .layout) same (g .lawful) parent valid (omega arith)) (omega arith) (omega arith) (omega arith) (omega arith)
         ])
 
-  protected-good : (w : ℕ) → w % 4 ≡ 0 → w ≤ 12 → Good (protected p b f w date) p
+  protected-good : (w : ℕ) → w % 4 ≡ 0 → w ≤ 12 → GoodWith extra (protected p b f w date) p
   unfolding protected
   protected-good w fours most = steady-good (protectionOf a w) (protected-above a w fours most) (protected-active a w fours)
 
 -- ---- the promises
 
 -- README's promise 3, "the nine book rules still hold": after temporary delete
-pub removed-keeps : (b : List ℕ) (id : ℕ) (date : List ℕ) (r : ℕ) (b' : List ℕ) (p : Places) → Removed b id date r b' → Good b p → Good b' p
+pub removed-keeps : (b : List ℕ) (id : ℕ) (date : List ℕ) (r : ℕ) (b' : List ℕ) (p : Places) {extra : ℕ → ℕ} → Removed b id date r b' → GoodWith extra b p → GoodWith extra b' p
 removed-keeps b id date r b' p h g =
     done-keeps r (removed (placesOf b) b id date) b b' p (h .books) (λ z.
     (let a = remove-asks b id date r (h .number) z (placesOf b) refl in
-    rw (g .places) (removed-good (placesOf b) b id date (a .0) (a .1 .0) (remove-valid b id date r (h .number) z) (a .1 .1 .0)))) g
+    rw (g .places) (removed-good (placesOf b) b id date (rw (g .places) at g) (a .1 .0) (remove-valid b id date r (h .number) z) (a .1 .1 .0)))) g
 
 -- after recover
-pub recovered-keeps : (b : List ℕ) (id : ℕ) (date : List ℕ) (r : ℕ) (b' : List ℕ) (p : Places) → Recovered b id date r b' → Good b p → Good b' p
+pub recovered-keeps : (b : List ℕ) (id : ℕ) (date : List ℕ) (r : ℕ) (b' : List ℕ) (p : Places) {extra : ℕ → ℕ} → Recovered b id date r b' → GoodWith extra b p → GoodWith extra b' p
 recovered-keeps b id date r b' p h g =
     done-keeps r (recovered (placesOf b) b id date) b b' p (h .books) (λ z.
     (let a = recover-asks b id date r (h .number) z (placesOf b) refl in
-    rw (g .places) (recovered-good (placesOf b) b id date (a .0) (a .1 .0) (recover-valid b id date r (h .number) z) (a .1 .1 .0)))) g
+    rw (g .places) (recovered-good (placesOf b) b id date (rw (g .places) at g) (a .1 .0) (recover-valid b id date r (h .number) z) (a .1 .1 .0)))) g
 
 -- after set protection
-pub protected-keeps : (b : List ℕ) (id w : ℕ) (date : List ℕ) (r : ℕ) (b' : List ℕ) (p : Places) → Protected b id w date r b' → Good b p → Good b' p
+pub protected-keeps : (b : List ℕ) (id w : ℕ) (date : List ℕ) (r : ℕ) (b' : List ℕ) (p : Places) {extra : ℕ → ℕ} → Protected b id w date r b' → GoodWith extra b p → GoodWith extra b' p
 protected-keeps b id w date r b' p h g =
     done-keeps r (protected (placesOf b) b id w date) b b' p (h .books) (λ z.
     (let a = protect-asks b id w date r (h .number) z (placesOf b) refl in
     let v = protect-valid b id w date r (h .number) z in
-    rw (g .places) (protected-good (placesOf b) b id date (a .0) (a .1 .0) (v .date') w (v .fours) (v .most)))) g
+    rw (g .places) (protected-good (placesOf b) b id date (rw (g .places) at g) (a .1 .0) (v .date') w (v .fours) (v .most)))) g

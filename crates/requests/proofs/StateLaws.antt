@@ -16,7 +16,7 @@ use Rattle.tables.specs.Indexes.{tableAt, wordOf, attributeOf, directoryBit, sy
 use Rattle.tables.specs.Places.{placesOf}
 use Rattle.tables.specs.Sector1.{activeOf, deletedOf, systemOf, directoryOf}
 use Rattle.tables.specs.Gates.{Gate}
-use Rattle.tables.specs.Books.{Good}
+use Rattle.tables.specs.Books.{Good, GoodWith}
 use Rattle.tables.specs.Rules.R9.{activeOne, deletedOne, systemOne, directoryOne}
 use Rattle.tables.specs.Views.{View, viewOf, Parent, tally}
 use Rattle.tables.proofs.Sector1CountLaws.{ones-active, ones-deleted}
@@ -37,7 +37,7 @@ part v one f h =
     let e : f - 1 + 1 ≡ f = omega (arith, h .low) in
     rw e at (sum-part (v .indexes) (f - 1) (λ k. one (k + 1) (v .table (k + 1))) (omega (arith, h .low, h .high)))
 
-module _ (b : List ℕ) (p : Places) (g : Good b p) (f : ℕ) (h : Parent (viewOf p b) f) where
+module _ (b : List ℕ) (p : Places) {extra : ℕ → ℕ} (g : GoodWith extra b p) (f : ℕ) (h : Parent (viewOf p b) f) where
   pub weights-few : attributeOf (tableAt p b f) < 128
   weights-few = g .lawful .r8 f (omega (arith, h .high)) (h .low) (h .word) .weights
 
@@ -59,7 +59,7 @@ module _ (b : List ℕ) (p : Places) (g : Good b p) (f : ℕ) (h : Parent (viewO
 
 -- ---- what the code reads
 
-module _ (b : List ℕ) (p : Places) (f : ℕ) (g : Good b p) (h : Parent (viewOf p b) f) where
+module _ (b : List ℕ) (p : Places) (f : ℕ) {extra : ℕ → ℕ} (g : GoodWith extra b p) (h : Parent (viewOf p b) f) where
   pub remove-active : (n : ℕ) → deletedBit (attributeOf (tableAt p b f)) ≡ 0 → n ≡ activeOf b → 1 ≤ n
   remove-active n is e = rw e (active-some b p g f h is)
 

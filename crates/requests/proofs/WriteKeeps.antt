@@ -10,7 +10,7 @@ use lib.Dec.{eqb}
 use lib.ListN.{length}
 use borrow.Author.Tests.{eq-eqb, ne-eqb, eqb-true}
 use Rattle.tables.specs.declared.places.Places.{Places}
-use Rattle.tables.specs.Books.{Good}
+use Rattle.tables.specs.Books.{Good, GoodWith}
 use Rattle.tables.specs.Dates.{Date}
 use Rattle.tables.specs.Gates.{Gate}
 use Rattle.tables.specs.Indexes.{attributeOf, variableBit}
@@ -60,20 +60,20 @@ module _ (b : List ℕ) (id at n : ℕ) (date : List ℕ) where
   unfolding writtenBooks
   none-written e = rw (eq-eqb n 0 e)
 
-module _ (b : List ℕ) (id at n : ℕ) (date : List ℕ) (g : Good b (placesOf b)) (parent : Parent (viewOf (placesOf b) b) id) (room : Gate (lackTests b id (askedLength b id at n)) 0) (valid : Date date) where
+module _ (b : List ℕ) (id at n : ℕ) (date : List ℕ) {extra : ℕ → ℕ} (g : GoodWith extra b (placesOf b)) (parent : Parent (viewOf (placesOf b) b) id) (room : Gate (lackTests b id (askedLength b id at n)) 0) (valid : Date date) where
   abbrev b₁ : List ℕ
   b₁ = grownTo b id (askedLength b id at n) date
 
   pub grown : Grown b id (askedLength b id at n) b₁
   grown = grown-is b id (askedLength b id at n) date g parent room (valid .long)
 
-  pub grown-good : Good b₁ (placesOf b)
+  pub grown-good : GoodWith extra b₁ (placesOf b)
   grown-good = grown-keeps b id (askedLength b id at n) date g parent room valid (λ l. (asked-grows b id at n (omega arith), room-few b id (askedLength b id at n) g parent room l))
 
-  pub settles : Settled b₁ id (placesOf b) (settle b₁ id date)
+  pub settles : Settled extra b₁ id (placesOf b) (settle b₁ id date)
   settles = settle-keeps b₁ id date (placesOf b) grown-good (grown .parent) valid
 
-  written-good : Good (writtenBooks b id at n date) (placesOf b)
+  written-good : GoodWith extra (writtenBooks b id at n date) (placesOf b)
   written-good = elim (ℕ-discrete n 0) [ yes e ↦ rw (none-written b id at n date e) g | no ne ↦ rw (some-written b id at n date ne) (settles .good) ]
 
   pub written-parent : Parent (viewOf (placesOf b) (writtenBooks b id at n date)) id
@@ -175,13 +175,14 @@ module _ (b body : List ℕ) (id : ℕ) (position long : Amount) (x : Bool) (inp
       length-filled (placesOf c) c (asks .0) (asks .1 .0) id (at' / 1024) (n' / 1024) x input body (asks .1 .1)
 
   -- README's promise 3, "the nine book rules still hold": after write; and the body is as long as it was
-  pub wrote-keeps : (r : Answer) (b' body' : List ℕ) (p : Places) → Good b p → Wrote b body id position long x input date r b' body' → Good b' p × (length body' ≡ length body)
-  wrote-keeps r b' body' p g h = go (numberOf r) (h .number) (h .books) (h .body'')
+  pub wrote-keeps : (r : Answer) (b' body' : List ℕ) (p : Places) {extra : ℕ → ℕ} → GoodWith extra b p → Wrote b body id position long x input date r b' body' → GoodWith extra b' p × (length body' ≡ length body)
+  wrote-keeps r b' body' p {extra = extra} g h = go (numberOf r) (h .number) (h .books) (h .body'')
     where
       go : (m : ℕ) → Gate (writeTests b body id position long (length input) date) m → b' ≡ after m (writtenBooks b id at' n' date) b
-          → body' ≡ after m (writtenBody b id at' n' x input date body) body → Good b' p × (length body' ≡ length body)
+          → body' ≡ after m (writtenBody b id at' n' x input date body) body → GoodWith extra b' p × (length body' ≡ length body)
       go zero q eb ed = (
-        rw (eb, g .places) (new-good b body id position long (length input) date 0 q refl),
+        rw (eb, g .places) (written-good b id at' n' date (rw (g .places) at g) (write-parent b body id position long (length input) date 0 q refl) (write-lack b body id position long (length input) date 0 q refl)
+            (write-allows b body id position long (length input) date 0 q refl .date')),
         ap length ed ∙ elim (ℕ-discrete n' 0) [ yes z ↦ none-long z | no ne ↦ some-long q ne ],
       )
       go (suc k) q eb ed = (rw eb g, ap length ed)

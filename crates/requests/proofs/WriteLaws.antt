@@ -2,7 +2,7 @@
 use mathlib.Core.Path.{_≡_, refl, sym, ap, ap₂, _∙_}
 use mathlib.Core.Logic.{_≢_}
 use mathlib.Core.Bool.{Bool, not, true, false}
-use mathlib.Core.List.{List}
+use mathlib.Core.List.{List, _∷_}
 use Prim.Native.Nat.{ℕ, zero, suc, _+_, _-_, _*_, _/_, _%_, _≤_, _<_}
 use native.Mathlib.Decide.{ℕ-discrete, decLt}
 use native.Mathlib.Omega.{arith}
@@ -12,7 +12,7 @@ use borrow.Author.Tests.{eq-eqb, ne-eqb, lt-ltb, le-ltb}
 use Rattle.field.specs.Says.{Says}
 use Rattle.field.proofs.Tests.{passed, refused, says-map}
 use Rattle.tables.specs.declared.places.Places.{Places}
-use Rattle.tables.specs.Books.{Good}
+use Rattle.tables.specs.Books.{Good, GoodWith}
 use Rattle.tables.specs.Dates.{Date}
 use Rattle.tables.specs.Gates.{Gate}
 use Rattle.tables.specs.Indexes.{tableAt, lengthOf, attributeOf, variableBit}
@@ -30,16 +30,16 @@ use Rattle.requests.specs.declared.amount.Amount.{Amount}
 use Rattle.requests.specs.declared.answer.Answer.{Answer}
 use Rattle.requests.specs.declared.answer.Answer.the-variants.{Done, Refused}
 use Rattle.requests.specs.Answers.{numberOf, argumentTests}
-use Rattle.requests.specs.Body.{BodySized, bodyTests}
+use Rattle.requests.specs.Body.{BodySized, bodyTest}
 use Rattle.requests.specs.Amounts.{amountValue}
 use Rattle.requests.specs.Grow.{growCounts, lackTests, grownTo}
-use Rattle.requests.specs.Named.{fileBytes, VariableSize}
+use Rattle.requests.specs.Named.{fileBytes, VariableSize, usableTests}
 use Rattle.requests.specs.Moving.{wholeSectors, endOf, MoveAllowed}
 use Rattle.requests.specs.State.{putState}
 use Rattle.requests.specs.Write.{WriteAllowed, Within, askedLength, moveTests, writeTests, settle, writtenBooks, writtenBody, Wrote, Writes}
 use Rattle.requests.proofs.RequestLaws.{after-one, answers-one}
 use Rattle.requests.proofs.ArgumentLaws.{says-this, argument-says, argument-allowed, argument-good}
-use Rattle.requests.proofs.NamedLaws.{body-usable, body-parent}
+use Rattle.requests.proofs.NamedLaws.{usable-parent}
 use Rattle.requests.proofs.FixedLaws.{le-says}
 use Rattle.requests.proofs.AmountLaws.{signed-most}
 use Rattle.requests.proofs.LongerLaws.{lack-provided}
@@ -86,25 +86,29 @@ asked-none b id at n e = rw (eq-eqb n 0 e)
 
 -- ---- the numbers
 
-module _ (b body : List ℕ) (id at n m : ℕ) (h : Gate (bodyTests 4 b body id) m) where
-  pub move-unusable : m ≢ 0 → Gate (moveTests b body id at n) m
+module _ (b : List ℕ) (id at n m : ℕ) (h : Gate (usableTests 4 b id) m) where
+  pub move-unusable : m ≢ 0 → Gate (moveTests b id at n) m
   unfolding moveTests
-  move-unusable ne = gate-stop (bodyTests 4 b body id) _ m h ne
+  move-unusable ne = gate-stop (usableTests 4 b id) _ m h ne
 
   module _ (e : m ≡ 0) (r : Bool) (s : Says r (Within b id at n)) where
-    pub move-past : not r ≡ true → Gate (moveTests b body id at n) 14
+    pub move-past : not r ≡ true → Gate (moveTests b id at n) 14
     unfolding moveTests
-    move-past out = gate-skip (bodyTests 4 b body id) _ m 14 h e (gate-fails 14 _ _ (omega arith) (refused r s out))
+    move-past out = gate-skip (usableTests 4 b id) _ m 14 h e (gate-fails 14 _ _ (omega arith) (refused r s out))
 
-    pub move-lack : (x k : ℕ) → not r ≡ false → x ≡ askedLength b id at n → Gate (lackTests b id x) k → Gate (moveTests b body id at n) k
+    pub move-lack : (x k : ℕ) → not r ≡ false → x ≡ askedLength b id at n → Gate (lackTests b id x) k → Gate (moveTests b id at n) k
     unfolding moveTests
-    move-lack x k in' is q = gate-skip (bodyTests 4 b body id) _ m k h e (gate-passes 14 _ _ k (passed r s in') (rw is at q))
+    move-lack x k in' is q = gate-skip (usableTests 4 b id) _ m k h e (gate-passes 14 _ _ k (passed r s in') (rw is at q))
 
 module _ (b body : List ℕ) (id : ℕ) (position long : Amount) (room : ℕ) (date : List ℕ) where
   module _ (a : Bool) (n : ℕ) (s : Says a (WriteAllowed position long room date)) (g : Gate (argumentTests b (a ≡ true)) n) where
     pub write-stops : n ≢ 0 → Gate (writeTests b body id position long room date) n
     unfolding writeTests
     write-stops ne = gate-stop (argumentTests b (WriteAllowed position long room date)) _ n (argument-says b a _ n s g) ne
+
+    pub write-goes : (r : ℕ) → n ≡ 0 → Gate (bodyTest b body ∷ moveTests b id (amountValue position) (wholeSectors (amountValue long))) r → Gate (writeTests b body id position long room date) r
+    unfolding writeTests
+    write-goes r e h = gate-skip (argumentTests b (WriteAllowed position long room date)) _ n r (argument-says b a _ n s g) e h
 
     module _ (e : n ≡ 0) (x y w : ℕ) (place : x ≡ amountValue position) (wanted : y ≡ amountValue long) (whole : w ≡ wholeSectors y) where
       moves : MoveAllowed position long room
@@ -116,9 +120,10 @@ module _ (b body : List ℕ) (id : ℕ) (position long : Amount) (room : ℕ) (d
       pub write-short : w ≤ 2147483647
       write-short = omega (arith, signed-most long (moves .long'))
 
-      pub write-goes : (r : ℕ) → Gate (moveTests b body id x w) r → Gate (writeTests b body id position long room date) r
-      unfolding writeTests
-      write-goes r h = gate-skip (argumentTests b (WriteAllowed position long room date)) _ n r (argument-says b a _ n s g) e (rw (whole, wanted, place) at h)
+  -- the values that the code tests
+  pub write-these : (x y w r : ℕ) → x ≡ amountValue position → y ≡ amountValue long → w ≡ wholeSectors y → Gate (moveTests b id x w) r
+      → Gate (moveTests b id (amountValue position) (wholeSectors (amountValue long))) r
+  write-these x y w r place wanted whole h = rw (whole, wanted, place) at h
 
   -- what a number 0 says
   module _ (m : ℕ) (h : Gate (writeTests b body id position long room date) m) (e : m ≡ 0) where
@@ -126,13 +131,13 @@ module _ (b body : List ℕ) (id : ℕ) (position long : Amount) (room : ℕ) (d
     unfolding writeTests
     front = gate-front (argumentTests b (WriteAllowed position long room date)) _ (rw e at h)
 
-    rest : Gate (moveTests b body id (amountValue position) (wholeSectors (amountValue long))) 0
+    rest : BodySized b body × Gate (moveTests b id (amountValue position) (wholeSectors (amountValue long))) 0
     unfolding writeTests
-    rest = gate-rest (argumentTests b (WriteAllowed position long room date)) _ (rw e at h)
+    rest = gate-head 15 (BodySized b body) _ (gate-rest (argumentTests b (WriteAllowed position long room date)) _ (rw e at h))
 
-    body-fine : Gate (bodyTests 4 b body id) 0
+    usable : Gate (usableTests 4 b id) 0
     unfolding moveTests
-    body-fine = gate-front (bodyTests 4 b body id) _ rest
+    usable = gate-front (usableTests 4 b id) _ (rest .1)
 
     pub write-allows : WriteAllowed position long room date
     write-allows = argument-allowed b (WriteAllowed position long room date) 0 front refl
@@ -141,18 +146,18 @@ module _ (b body : List ℕ) (id : ℕ) (position long : Amount) (room : ℕ) (d
     write-good = argument-good b (WriteAllowed position long room date) 0 front refl
 
     pub write-parent : Parent (viewOf (placesOf b) b) id
-    write-parent = body-parent 4 b body id (placesOf b) 0 write-good body-fine refl
+    write-parent = usable-parent 4 b id (placesOf b) 0 write-good usable refl
 
     pub write-sized : BodySized b body
-    write-sized = body-usable 4 b body id body-fine .0
+    write-sized = rest .0
 
     pub write-within : Within b id (amountValue position) (wholeSectors (amountValue long))
     unfolding moveTests
-    write-within = gate-head 14 _ _ (gate-rest (bodyTests 4 b body id) _ rest) .0
+    write-within = gate-head 14 _ _ (gate-rest (usableTests 4 b id) _ (rest .1)) .0
 
     pub write-lack : Gate (lackTests b id (askedLength b id (amountValue position) (wholeSectors (amountValue long)))) 0
     unfolding moveTests
-    write-lack = gate-head 14 _ _ (gate-rest (bodyTests 4 b body id) _ rest) .1
+    write-lack = gate-head 14 _ _ (gate-rest (usableTests 4 b id) _ (rest .1)) .1
 
     -- what the writing of the books asks
     pub write-writes : (x y w : ℕ) → x ≡ amountValue position → y ≡ amountValue long → w ≡ wholeSectors y → w ≢ 0 → Writes b id x w date
@@ -190,7 +195,7 @@ pub record Grown (b : List ℕ) (id long : ℕ) (b' : List ℕ) : Type 0 where
   pub more : lengthOf (fileBytes b id) ≤ lengthOf (tableAt (placesOf b) b' id)
   pub attribute : attributeOf (tableAt (placesOf b) b' id) ≡ attributeOf (fileBytes b id)
 
-module _ (b : List ℕ) (id long : ℕ) (date : List ℕ) (g : Good b (placesOf b)) (parent : Parent (viewOf (placesOf b) b) id) (room : Gate (lackTests b id long) 0) (six : length date ≡ 6) where
+module _ (b : List ℕ) (id long : ℕ) (date : List ℕ) {extra : ℕ → ℕ} (g : GoodWith extra b (placesOf b)) (parent : Parent (viewOf (placesOf b) b) id) (room : Gate (lackTests b id long) 0) (six : length date ≡ 6) where
   longer : lengthOf (fileBytes b id) < long → Grown b id long (grown (placesOf b) b id (growCounts b id long) long date)
   unfolding grown
   longer l =
@@ -220,7 +225,7 @@ module _ (b : List ℕ) (id long : ℕ) (date : List ℕ) (g : Good b (placesOf 
 
 -- ---- the books, written
 
-module _ (b : List ℕ) (id at n : ℕ) (date : List ℕ) (g : Good b (placesOf b)) (parent : Parent (viewOf (placesOf b) b) id) (h : Writes b id at n date) (x : ℕ) (is : x ≡ askedLength b id at n) where
+module _ (b : List ℕ) (id at n : ℕ) (date : List ℕ) {extra : ℕ → ℕ} (g : GoodWith extra b (placesOf b)) (parent : Parent (viewOf (placesOf b) b) id) (h : Writes b id at n date) (x : ℕ) (is : x ≡ askedLength b id at n) where
   pub written-room : Gate (lackTests b id x) 0
   written-room = rw is (h .room)
 

@@ -9,7 +9,7 @@ use lib.Dec.{eqb}
 use Rattle.field.specs.Sum.{sumTo}
 use Rattle.field.proofs.Sums.{sum-le}
 use Rattle.tables.specs.Blocks.{blockOf, perZone}
-use Rattle.tables.specs.Books.{Good}
+use Rattle.tables.specs.Books.{GoodWith}
 use Rattle.tables.specs.Gates.{Gate}
 use Rattle.tables.specs.Indexes.{lengthOf}
 use Rattle.tables.specs.Places.{placesOf}
@@ -46,7 +46,7 @@ taken-few v given taken t = sum-times (v .zones - 2) (blockOf t) (λ i. onlyIf (
         let l : onlyIf (eqb (typeIn v given (i + 2)) t) (inside i) ≤ perZone t = omega (arith, only-le (eqb (typeIn v given (i + 2)) t) (inside i), few i) in
         omega (arith, mul-le-mul-right {m = onlyIf (eqb (typeIn v given (i + 2)) t) (inside i)} {n = perZone t} (blockOf t) l, div-mul-le-self 1024 (blockOf t))
 
-pub room-few : (b : List ℕ) (id long : ℕ) → Good b (placesOf b) → Parent (viewOf (placesOf b) b) id → Gate (lackTests b id long) 0 → lengthOf (fileBytes b id) < long → long < 2147483648
+pub room-few : (b : List ℕ) (id long : ℕ) {extra : ℕ → ℕ} → GoodWith extra b (placesOf b) → Parent (viewOf (placesOf b) b) id → Gate (lackTests b id long) 0 → lengthOf (fileBytes b id) < long → long < 2147483648
 unfolding lackTests
 room-few b id long g parent h l =
     let p = placesOf b in

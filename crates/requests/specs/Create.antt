@@ -7,7 +7,7 @@ use lib.ListN.{replicate}
 use Rattle.tables.specs.declared.places.Places.{Places}
 use Rattle.tables.specs.declared.counts.Chosen.{Chosen}
 use Rattle.tables.specs.declared.counts.Chosen.the-variants.{Types, Bad}
-use Rattle.tables.specs.Blocks.{Typed}
+use Rattle.tables.specs.Blocks.{DataType}
 use Rattle.tables.specs.Counts.{countsOf, blockBytes, Countable}
 use Rattle.tables.specs.Dates.{Date}
 use Rattle.tables.specs.Names.{NewName}
@@ -96,7 +96,7 @@ cellType Below = 9
 
 pub record VariableAllowed (name : List ℕ) (cell : Amount) (kind : ℕ) (date : List ℕ) : Type 0 where
   pub file : NewFile name kind date
-  pub cell' : Typed (cellType cell)
+  pub cell' : DataType (cellType cell)
 
 abbrev pub CreatedVariable : List ℕ → List ℕ → Amount → ℕ → List ℕ → Created → List ℕ → Type 0
 CreatedVariable b name cell kind date r b' =

@@ -14,14 +14,15 @@ use Rattle.files.specs.Moves.{fetched}
 use Rattle.requests.specs.declared.amount.Amount.{Amount}
 use Rattle.requests.specs.declared.answer.Answer.{Answer}
 use Rattle.requests.specs.Answers.{after, numberOf, answerOf, argumentTests}
-use Rattle.requests.specs.Body.{bodyTests}
+use Rattle.requests.specs.Body.{bodyTest}
 use Rattle.requests.specs.Amounts.{amountValue}
 use Rattle.requests.specs.Moving.{wholeSectors, endOf, MoveAllowed}
+use Rattle.requests.specs.Named.{usableTests}
 
 -- 1 to 5, 7, 15, 8, 9, 10, then 14
 unfoldable pub readTests : List ℕ → List ℕ → ℕ → Amount → Amount → ℕ → List Test
 readTests b body id position long room =
-    argumentTests b (MoveAllowed position long room) ++ (bodyTests 8 b body id ++ (asks 14 (amountValue position < endOf b id) ∷ []))
+    argumentTests b (MoveAllowed position long room) ++ (bodyTest b body ∷ (usableTests 8 b id ++ (asks 14 (amountValue position < endOf b id) ∷ [])))
 
 -- "the smaller of it and what remains"
 unfoldable pub readAmount : List ℕ → ℕ → ℕ → ℕ → ℕ

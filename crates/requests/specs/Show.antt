@@ -7,12 +7,13 @@ use Rattle.tables.specs.Gates.{Test, asks, Gate}
 use Rattle.files.specs.Moves.{bodyPlace, sectorContent}
 use Rattle.requests.specs.declared.show.Part.{Part}
 use Rattle.requests.specs.Answers.{useTests}
-use Rattle.requests.specs.Body.{bodyTests}
+use Rattle.requests.specs.Body.{bodyTest}
 use Rattle.requests.specs.Locate.{HasSector, kthOf}
+use Rattle.requests.specs.Named.{usableTests}
 
 -- 1 to 5, 15, 8, 9, 10, then 14
 unfoldable pub showTests : List ℕ → List ℕ → ℕ → ℕ → List Test
-showTests b body id k = useTests b ++ (bodyTests 8 b body id ++ (asks 14 (HasSector b id k) ∷ []))
+showTests b body id k = useTests b ++ (bodyTest b body ∷ (usableTests 8 b id ++ (asks 14 (HasSector b id k) ∷ [])))
 
 -- where the part lies in the body: 1,024 bytes where the number is 0, else none, at 0
 abbrev pub partOf : ℕ → ℕ → Part

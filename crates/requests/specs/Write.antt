@@ -17,10 +17,10 @@ use Rattle.files.specs.Moves.{filled}
 use Rattle.requests.specs.declared.amount.Amount.{Amount}
 use Rattle.requests.specs.declared.answer.Answer.{Answer}
 use Rattle.requests.specs.Answers.{after, numberOf, answerOf, argumentTests}
-use Rattle.requests.specs.Body.{bodyTests}
+use Rattle.requests.specs.Body.{bodyTest}
 use Rattle.requests.specs.Amounts.{amountValue}
 use Rattle.requests.specs.Grow.{lackTests, grownTo}
-use Rattle.requests.specs.Named.{fileBytes}
+use Rattle.requests.specs.Named.{fileBytes, usableTests}
 use Rattle.requests.specs.Moving.{wholeSectors, endOf, MoveAllowed}
 use Rattle.requests.specs.State.{putState}
 
@@ -40,16 +40,16 @@ pub record Within (b : List ℕ) (id at n : ℕ) : Type 0 where
 unfoldable pub askedLength : List ℕ → ℕ → ℕ → ℕ → ℕ
 askedLength b id at n = cond (eqb n 0) 0 (cond (eqb (variableBit (attributeOf (fileBytes b id))) 1) (at + n) 0)
 
--- 15, 8, 9, 10, 14, then 12 and 13 for the growth
-unfoldable pub moveTests : List ℕ → List ℕ → ℕ → ℕ → ℕ → List Test
+-- 8, 9, 10, 14, then 12 and 13 for the growth
+unfoldable pub moveTests : List ℕ → ℕ → ℕ → ℕ → List Test
 unfolding askedLength
-moveTests b body id at n = bodyTests 4 b body id ++ (asks 14 (Within b id at n) ∷ lackTests b id (askedLength b id at n))
+moveTests b id at n = usableTests 4 b id ++ (asks 14 (Within b id at n) ∷ lackTests b id (askedLength b id at n))
 
--- 1 to 5, 7, then these
+-- 1 to 5, 7, 15, then these
 unfoldable pub writeTests : List ℕ → List ℕ → ℕ → Amount → Amount → ℕ → List ℕ → List Test
 unfolding moveTests
 writeTests b body id position long room date =
-    argumentTests b (WriteAllowed position long room date) ++ moveTests b body id (amountValue position) (wholeSectors (amountValue long))
+    argumentTests b (WriteAllowed position long room date) ++ (bodyTest b body ∷ moveTests b id (amountValue position) (wholeSectors (amountValue long)))
 
 -- ---- the books
 

@@ -1,19 +1,19 @@
-// Requests that take the body: has it its length, and may the file be used?
-use crate::named::usable_number;
-use tables::places::Places;
-ghost use Prim.Native.Nat.{_<_};
-ghost use Rattle.tables.specs.Gates.{Gate};
+// Requests that take the body: has it its length?
+use tables::kinds::SECTOR_LEN;
+use tables::kinds::ZONE;
+use tables::sector0::zones;
+ghost use Rattle.field.specs.Says.{Says};
 ghost use Rattle.tables.specs.Books.{Good};
-ghost use Rattle.requests.specs.Body.{bodyTests};
+ghost use Rattle.tables.specs.Places.{placesOf};
+ghost use Rattle.requests.specs.Body.{BodySized};
 
-// Numbers 15, 8, 9, and 10 where the file is protected by weight w.
-pub fn body_number(b: &[u8], p: Places, body: &[u8], id: u32, w: u32) -> u32
-    requires { ⌜ Good (now b) p ⌝ }
-    requires { ⌜ 0 < w ⌝ }
-    ensures { λ r. ⌜ Gate (bodyTests w (now (b .entry)) (now (body .entry)) id) r ⌝ }
+// The bytes of a zone.
+const ZONE_BYTES: usize = ZONE as usize * SECTOR_LEN;
+
+// Where it has not, a request that takes it gives 15.
+pub fn body_sized(b: &[u8], body: &[u8]) -> bool
+    requires { ⌜ Good (now b) (placesOf (now b)) ⌝ }
+    ensures { λ r. ⌜ Says r (BodySized (now (b .entry)) (now (body .entry))) ⌝ }
 {
-    if body.len() != 1048576 * (p.zones as usize - 2) {
-        return 15;
-    }
-    usable_number(b, p, id, w)
+    body.len() == ZONE_BYTES * (zones(b) as usize - 2)
 }

@@ -6,6 +6,7 @@ use crate::make::make_file;
 use crate::make::new_file_valid;
 use allocation::file::only_counts;
 use tables::blocks::block_sectors;
+use tables::kinds::SECTOR;
 ghost use mathlib.Core.Path.{_≡_};
 ghost use Prim.Native.Nat.{_≤_};
 ghost use Rattle.field.specs.Says.{Says};
@@ -17,7 +18,7 @@ fn type_with(n: u32) -> u32
 {
     let mut t: u32 = 3;
     while t < 9 {
-        if 1024 * block_sectors(t) == n {
+        if SECTOR * block_sectors(t) == n {
             return t;
         }
         t += 1;

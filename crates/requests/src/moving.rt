@@ -3,6 +3,8 @@ use crate::amount::Amount;
 use tables::index::byte_length;
 use tables::index::table;
 use tables::kinds::Index;
+use tables::kinds::ROUND_UP;
+use tables::kinds::SECTOR;
 use tables::places::Places;
 ghost use mathlib.Core.Path.{_≡_};
 ghost use Prim.Native.Nat.{_≤_};
@@ -16,7 +18,7 @@ ghost use Rattle.requests.specs.Moving.{wholeSectors, endOf, MoveAllowed
 pub fn whole_sectors(n: u32) -> u32
     ensures { λ r. ⌜ (r ≡ wholeSectors n) × (r ≤ n) ⌝ }
 {
-    n / 1024 * 1024
+    n / SECTOR * SECTOR
 }
 
 // Are position and wanted length such that a buffer of `room` bytes is enough?
@@ -26,7 +28,7 @@ fn sizes_allowed(at: u32, long: u32, room: usize) -> bool
     if at > 2147483647 {
         return false;
     }
-    if at % 1024 != 0 {
+    if at % SECTOR != 0 {
         return false;
     }
     if long > 2147483647 {
@@ -53,5 +55,5 @@ pub fn end_of(b: &[u8], p: Places, f: Index) -> u32
     requires { ⌜ Parent (viewOf p (now b)) (f .0) ⌝ }
     ensures { λ r. ⌜ (r ≡ endOf (now (b .entry)) (f .0)) × (r ≤ 2147483648) ⌝ }
 {
-    1024 * ((byte_length(table(b, p, f)) + 1023) / 1024)
+    SECTOR * ((byte_length(table(b, p, f)) + ROUND_UP) / SECTOR)
 }

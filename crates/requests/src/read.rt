@@ -3,12 +3,14 @@ use crate::amount::Amount;
 use crate::amount::number_of;
 use crate::answer::Answer;
 use crate::argument::argument_number;
-use crate::body::body_number;
+use crate::body::body_sized;
 use crate::moving::end_of;
 use crate::moving::move_allowed;
 use crate::moving::whole_sectors;
+use crate::named::usable_number;
 use files::sectors::read_sectors;
 use tables::kinds::Index;
+use tables::kinds::SECTOR;
 use tables::places::Places;
 use tables::places::read_places;
 ghost use mathlib.Core.Path.{_≡_};
@@ -26,8 +28,11 @@ fn read_number(b: &[u8], body: &[u8], id: u32, position: Amount, long: Amount, r
     if n != 0 {
         return n;
     }
+    if !body_sized(b, body) {
+        return 15;
+    }
     let p = read_places(b);
-    let m = body_number(b, p, body, id, 8);
+    let m = usable_number(b, p, id, 8);
     if m != 0 {
         return m;
     }
@@ -72,6 +77,6 @@ pub fn read(
     let f = Index(id);
     let at = number_of(position);
     let amount = read_amount(b, p, f, at, number_of(long));
-    read_sectors(b, p, f, at / 1024, amount / 1024, exchange, body, out);
+    read_sectors(b, p, f, at / SECTOR, amount / SECTOR, exchange, body, out);
     Answer::Done(amount)
 }

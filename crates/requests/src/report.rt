@@ -3,6 +3,7 @@ use crate::text::put_line;
 use crate::used::used_sectors;
 use examination::check::Checked;
 use examination::check::check;
+use tables::kinds::ZONE;
 use tables::open::open_zones;
 use tables::places::Places;
 use tables::sector1;
@@ -40,7 +41,7 @@ fn gather(b: &[u8], p: Places) -> Figures
 {
     Figures {
         zones: p.zones,
-        sectors: 1024 * p.zones,
+        sectors: ZONE * p.zones,
         used: used_sectors(b, p),
         indexes: p.indexes,
         free: sector1::free_indexes(b),

@@ -1,10 +1,12 @@
 // Show: a file's k-th sector as it lies in the caller's body.
-use crate::body::body_number;
+use crate::body::body_sized;
 use crate::judged::use_number;
+use crate::named::usable_number;
 use crate::sector::kth_sector;
 use allocation::size::file_sectors;
 use files::sectors::body_place;
 use tables::kinds::Index;
+use tables::kinds::SECTOR_LEN;
 use tables::places::read_places;
 ghost use Rattle.tables.specs.Gates.{Gate};
 ghost use Rattle.requests.specs.Show.{showTests, ShownAt, Shown};
@@ -24,8 +26,11 @@ pub fn show_number(b: &[u8], body: &[u8], id: u32, k: u32) -> u32
     if n != 0 {
         return n;
     }
+    if !body_sized(b, body) {
+        return 15;
+    }
     let p = read_places(b);
-    let m = body_number(b, p, body, id, 8);
+    let m = usable_number(b, p, id, 8);
     if m != 0 {
         return m;
     }
@@ -46,7 +51,7 @@ pub fn show_part(b: &[u8], body: &[u8], id: u32, k: u32) -> Part
     let f = Index(id);
     Part {
         at: body_place(kth_sector(b, read_places(b), f, k)),
-        len: 1024,
+        len: SECTOR_LEN,
     }
 }
 

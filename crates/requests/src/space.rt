@@ -2,6 +2,7 @@
 use crate::judged::judge;
 use crate::used::used_sectors;
 use examination::check::Checked;
+use tables::kinds::ZONE;
 use tables::places::Places;
 ghost use mathlib.Core.Path.{_≡_};
 ghost use Prim.Native.Nat.{_*_};
@@ -19,7 +20,7 @@ fn measure(b: &[u8], p: Places) -> Space
     requires { ⌜ Good (now b) p ⌝ }
     ensures { λ r. ⌜ r ≡ Space.Is (1024 * zonesOf (now (b .entry))) (usedSectors (placesOf (now (b .entry))) (now (b .entry))) ⌝ }
 {
-    Space::Is(1024 * p.zones, used_sectors(b, p))
+    Space::Is(ZONE * p.zones, used_sectors(b, p))
 }
 
 pub fn space_of(b: &[u8]) -> Space

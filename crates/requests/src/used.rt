@@ -1,5 +1,6 @@
 // How many sectors are in use.
 use field::runs::count_bits;
+use tables::kinds::ZONE;
 use tables::places::Places;
 ghost use mathlib.Core.Path.{_≡_};
 ghost use lib.ListN.{length};
@@ -10,6 +11,6 @@ pub fn used_sectors(b: &[u8], p: Places) -> u32
     requires { ⌜ Layout p (length (now b)) ⌝ }
     ensures { λ r. ⌜ r ≡ usedSectors p (now (b .entry)) ⌝ }
 {
-    let sectors = 1024 * p.zones;
+    let sectors = ZONE * p.zones;
     count_bits(b, p.sectortable, 0, sectors as usize)
 }

@@ -3,12 +3,13 @@ use crate::amount::Amount;
 use crate::amount::number_of;
 use crate::answer::Answer;
 use crate::argument::argument_number;
-use crate::body::body_number;
+use crate::body::body_sized;
 use crate::longer::lack_number;
 use crate::longer::lengthen;
 use crate::moving::end_of;
 use crate::moving::move_allowed;
 use crate::moving::whole_sectors;
+use crate::named::usable_number;
 use crate::state::put_state;
 use crate::variable::variable_size;
 use files::sectors::write_sectors;
@@ -16,6 +17,7 @@ use tables::date::date_valid;
 use tables::index::attribute;
 use tables::index::table;
 use tables::kinds::Index;
+use tables::kinds::SECTOR;
 use tables::places::Places;
 use tables::places::read_places;
 ghost use mathlib.Core.Path.{_≡_};
@@ -70,13 +72,13 @@ fn asked_length(b: &[u8], p: Places, f: Index, at: u32, n: u32) -> u32
     at + n
 }
 
-// Numbers 15, 8, 9, 10, 14, 12 and 13.
-fn move_number(b: &[u8], p: Places, body: &[u8], id: u32, at: u32, n: u32) -> u32
+// Numbers 8, 9, 10, 14, 12 and 13.
+fn move_number(b: &[u8], p: Places, id: u32, at: u32, n: u32) -> u32
     requires { ⌜ Good (now b) p ⌝ }
     requires { ⌜ (at ≤ 2147483647) × (n ≤ 2147483647) ⌝ }
-    ensures { λ r. ⌜ Gate (moveTests (now (b .entry)) (now (body .entry)) id at n) r ⌝ }
+    ensures { λ r. ⌜ Gate (moveTests (now (b .entry)) id at n) r ⌝ }
 {
-    let m = body_number(b, p, body, id, 4);
+    let m = usable_number(b, p, id, 4);
     if m != 0 {
         return m;
     }
@@ -102,11 +104,13 @@ fn write_number(
     if n != 0 {
         return n;
     }
+    if !body_sized(b, body) {
+        return 15;
+    }
     let p = read_places(b);
     move_number(
         b,
         p,
-        body,
         id,
         number_of(position),
         whole_sectors(number_of(long)),
@@ -164,8 +168,8 @@ pub fn write(
         b,
         read_places(b),
         f,
-        at / 1024,
-        n / 1024,
+        at / SECTOR,
+        n / SECTOR,
         exchange,
         input,
         body,

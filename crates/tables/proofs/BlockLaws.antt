@@ -1,16 +1,39 @@
 -- Blocks: the six sizes once, and what follows for any size that makes up a zone.
 use mathlib.Core.Path.{_≡_, refl, sym, ap, _∙_, subst}
+use mathlib.Core.Bool.{true, false}
 use Prim.Native.Nat.{ℕ, zero, suc, _+_, _-_, _*_, _/_, _%_, _^_, _≤_, _<_}
 use native.Mathlib.Nat.{mul-le-mul-right, add-mul, add-assoc, zero-mul, one-mul, suc-mul}
-use native.Mathlib.Decide.{ℕ-discrete}
+use native.Mathlib.Decide.{ℕ-discrete, decLe}
 use native.Mathlib.Omega.{arith}
 use lib.Dec.{T, ltb, lit<, lit≤}
+use lib.ListN.{getD}
+use borrow.Author.Tests.{le-leb, lt-leb}
 use Rattle.field.specs.Sum.{sumTo}
 use Rattle.field.proofs.Sums.{sum-zero, sum-one, sum-cut}
-use Rattle.tables.specs.Blocks.{Typed, blockOf, Block, Whole}
+use Rattle.tables.specs.Blocks.{ZoneType, isZoneType, DataType, blockSizes, blockOf, Block, Whole}
 
--- what holds of the types C to H holds of every type 3-8
-pub six : (P : ℕ → Type 0) → P 3 → P 4 → P 5 → P 6 → P 7 → P 8 → (t : ℕ) → Typed t → P t
+-- ---- types of zones
+
+-- files lie in zones of every type that a zone may have, and of no other
+pub data-zone : {t : ℕ} → DataType t → ZoneType t
+data-zone d = record { low = d .low; high = d .high }
+
+pub zone-data : {t : ℕ} → ZoneType t → DataType t
+zone-data d = record { low = d .low; high = d .high }
+
+pub zone-type : (t : ℕ) → ZoneType t → isZoneType t ≡ true
+unfolding isZoneType
+zone-type t h = rw (le-leb 3 t (h .low), le-leb t 8 (h .high))
+
+pub no-zone-type : (t : ℕ) → (ZoneType t → ⊥) → isZoneType t ≡ false
+unfolding isZoneType
+no-zone-type t h = elim (decLe 3 t) [
+  | no l ↦ rw (lt-leb 3 t (omega arith))
+  | yes l ↦ elim (decLe t 8) [ yes m ↦ absurd (h (record { low = l; high = m })) | no m ↦ rw (le-leb 3 t l, lt-leb t 8 (omega arith)) ]
+]
+
+-- what holds of the types C to H holds of every type in which files lie
+pub six : (P : ℕ → Type 0) → P 3 → P 4 → P 5 → P 6 → P 7 → P 8 → (t : ℕ) → DataType t → P t
 six P c d e f g h t typed =
     elim (ℕ-discrete t 3) [
       | yes q ↦ subst P (sym q) c
@@ -30,16 +53,34 @@ six P c d e f g h t typed =
     ]
 
 -- the six sizes, by computation
-pub block-of : (t : ℕ) → Typed t → Block (blockOf t)
+pub block-of : (t : ℕ) → ZoneType t → Block (blockOf t)
 unfolding blockOf
-block-of = six (λ t. Block (blockOf t)) (one tt refl) (one tt refl) (one tt refl) (one tt refl) (one tt refl) (one tt refl)
+block-of t typed = six (λ t. Block (blockOf t)) (one tt refl) (one tt refl) (one tt refl) (one tt refl) (one tt refl) (one tt refl) t (zone-data typed)
   where
     one : {size : ℕ} → T (ltb 0 size) → 1024 / size * size ≡ 1024 → Block size
     one l e = record { some = lit< l; whole = e }
 
-pub block-few : (t : ℕ) → Typed t → blockOf t ≤ 1024
+-- no block is empty, whatever the number
+pub block-some : (t : ℕ) → 0 < blockOf t
 unfolding blockOf
-block-few = six (λ t. blockOf t ≤ 1024) (lit≤ tt) (lit≤ tt) (lit≤ tt) (lit≤ tt) (lit≤ tt) (lit≤ tt)
+block-some t = go (t - 3)
+  where
+    go : (n : ℕ) → 0 < getD blockSizes n 1
+    go zero = lit< tt
+    go (suc zero) = lit< tt
+    go (suc (suc zero)) = lit< tt
+    go (suc (suc (suc zero))) = lit< tt
+    go (suc (suc (suc (suc zero)))) = lit< tt
+    go (suc (suc (suc (suc (suc zero))))) = lit< tt
+    go (suc (suc (suc (suc (suc (suc n)))))) = lit< tt
+
+-- those of files' zones among them
+pub data-block : (t : ℕ) → DataType t → Block (blockOf t)
+data-block t typed = block-of t (data-zone typed)
+
+pub block-few : (t : ℕ) → ZoneType t → blockOf t ≤ 1024
+unfolding blockOf
+block-few t typed = six (λ t. blockOf t ≤ 1024) (lit≤ tt) (lit≤ tt) (lit≤ tt) (lit≤ tt) (lit≤ tt) (lit≤ tt) t (zone-data typed)
 
 -- a block of so many ends before the next begins
 pub block-end : (i count size : ℕ) → i < count → i * size + size ≤ count * size
@@ -50,10 +91,10 @@ pub block-in : (k size : ℕ) → Block size → k < 1024 / size → k * size + 
 block-in k size b l = omega (arith, block-end k (1024 / size) size l, b .whole)
 
 -- four times as many sectors from each type to the next, by a shift
-pub size-shift : (t : ℕ) → Typed t → ((1 * 2 ^ (2 * (t - 3))) % 2 ^ 32 ≡ blockOf t) × Block ((1 * 2 ^ (2 * (t - 3))) % 2 ^ 32)
+pub size-shift : (t : ℕ) → ZoneType t → ((1 * 2 ^ (2 * (t - 3))) % 2 ^ 32 ≡ blockOf t) × Block ((1 * 2 ^ (2 * (t - 3))) % 2 ^ 32)
 unfolding blockOf
 size-shift t typed =
-    let e : (1 * 2 ^ (2 * (t - 3))) % 2 ^ 32 ≡ blockOf t = six (λ t. (1 * 2 ^ (2 * (t - 3))) % 2 ^ 32 ≡ blockOf t) refl refl refl refl refl refl t typed in
+    let e : (1 * 2 ^ (2 * (t - 3))) % 2 ^ 32 ≡ blockOf t = six (λ t. (1 * 2 ^ (2 * (t - 3))) % 2 ^ 32 ≡ blockOf t) refl refl refl refl refl refl t (zone-data typed) in
     (e, subst Block (sym e) (block-of t typed))
 
 -- ---- clear blocks counted by the bits that are set

@@ -4,11 +4,11 @@ use mathlib.Core.Path.{_≡_, refl, sym, _∙_, ap}
 use mathlib.Core.Bool.{Bool, true, false, cond}
 use mathlib.Core.List.{List, [], _++_, append-nil}
 use Prim.Native.Nat.{ℕ, zero, suc, _+_, _-_, _*_, _/_, _%_, _^_, _≤_, _<_}
-use native.Mathlib.Nat.{le-refl, mod-le, mod-lt, div-add-mod', div-le-self, zero-mul, one-mul, add-mul, mul-le-mul-left, mul-one, div-lt-iff-lt-mul, one-le-pow}
+use native.Mathlib.Nat.{le-refl, mod-le, mod-lt, div-add-mod', div-le-self, zero-mul, one-mul, add-mul, mul-le-mul-left, mul-one, div-lt-iff-lt-mul}
 use native.Mathlib.Numerals.{add-one}
 use native.Mathlib.Decide.{ℕ-discrete}
 use native.Mathlib.Omega.{arith}
-use lib.Dec.{T, eqb, leb, lit≤}
+use lib.Dec.{T, eqb, leb}
 use lib.Pow.{pow-pos, mod-pow-add}
 use lib.ListN.{length, getD, take, set}
 use lib.Seq.{take-suc-set, append-snoc, take-all}
@@ -20,10 +20,10 @@ use mir.Syntax.{w32}
 use borrow.Author.Tests.{eq-eqb, ne-eqb, le-leb, lt-leb, ltb-true, eqb-true, eqb-false}
 use Rattle.tables.specs.declared.counts.Chosen.{Chosen}
 use Rattle.tables.specs.declared.counts.Chosen.the-variants.{Types, Bad}
-use Rattle.tables.specs.Blocks.{Typed, blockOf, Block}
+use Rattle.tables.specs.Blocks.{DataType, blockOf, Block}
 use Rattle.tables.specs.Rules.R1.{ceil}
 use Rattle.tables.specs.Counts.{typesOf, chosenTypes, weightOf, blockBytes, isChosen, noneBelow, shareCount, shareRest, countsDown, countsOf, suppliedBy, Countable, Shared}
-use Rattle.tables.proofs.BlockLaws.{six, block-few}
+use Rattle.tables.proofs.BlockLaws.{data-zone, six, block-some, block-few}
 use Rattle.field.proofs.Tests.{no-true}
 
 -- ---- a branch by a test, on each way on from it
@@ -45,10 +45,10 @@ pub ruleset conds = (eq-yes, eq-no, le-yes, le-no)
 
 -- ---- the bytes of a block, by its sectors
 
-pub bytes-high : (t s : ℕ) → Typed t → s ≡ blockOf t → 1024 * s ≤ 1048576
-bytes-high t s typed e = omega (arith, block-few t typed)
+pub bytes-high : (t s : ℕ) → DataType t → s ≡ blockOf t → 1024 * s ≤ 1048576
+bytes-high t s typed e = omega (arith, block-few t (data-zone typed))
 
-pub bytes-at : (t s : ℕ) → Typed t → (s ≡ blockOf t) × Block s → (1024 * s ≡ blockBytes t) × (0 < 1024 * s) × (1024 * s ≤ 1048576)
+pub bytes-at : (t s : ℕ) → DataType t → (s ≡ blockOf t) × Block s → (1024 * s ≡ blockBytes t) × (0 < 1024 * s) × (1024 * s ≤ 1048576)
 unfolding blockBytes
 bytes-at t s typed h = (ap (λ (n : ℕ). 1024 * n) (h .0), omega (arith, h .1 .some), bytes-high t s typed (h .0))
 
@@ -148,8 +148,8 @@ counts-end flag rest i c t l z e =
 -- ---- a step's numbers
 
 bytes-some : (t : ℕ) → 0 < blockBytes t
-unfolding blockBytes blockOf
-bytes-some t = omega (arith, one-le-pow (t - 3) 4 (lit≤ tt))
+unfolding blockBytes
+bytes-some t = omega (arith, block-some t)
 
 module _ (n b : ℕ) (some : 0 < b) where
   -- rounding up gives enough, with less than a block to spare
@@ -322,6 +322,6 @@ module _ (flag size : ℕ) where
   counts-fewest t last = fewest flag t last 6 size (omega (arith, last .high))
 
   -- none is of a type that is not chosen
-  pub counts-none : (t : ℕ) → Typed t → isChosen flag t ≡ false → getD (countsOf flag size) (8 - t) 0 ≡ 0
+  pub counts-none : (t : ℕ) → DataType t → isChosen flag t ≡ false → getD (countsOf flag size) (8 - t) 0 ≡ 0
   unfolding countsOf
   counts-none t typed h = none-at flag 6 size t (typed .low) (omega (arith, typed .high)) h

@@ -19,11 +19,12 @@ use Rattle.tables.specs.Indexes.{tableAt}
 use Rattle.tables.specs.Views.{viewOf}
 use Rattle.tables.specs.Same.{Same}
 use Rattle.tables.specs.Rules.R1.{Tails}
+use Rattle.tables.specs.Rules.R6.{HeaderLaw}
 use Rattle.tables.specs.Rules.R9.{R9}
-use Rattle.tables.specs.Lawful.{Lawful}
-use Rattle.tables.specs.Books.{Sized, Marked, Placed, Good}
+use Rattle.tables.specs.Lawful.{LawfulWith}
+use Rattle.tables.specs.Books.{Sized, Marked, Placed, GoodWith}
 use Rattle.tables.proofs.ZoneEntryLaws.{zone-kept}
-use Rattle.tables.proofs.SameLaws.{same-ground, ground-R2, ground-R3, same-R4, same-R5, same-R6, same-R7, same-R8}
+use Rattle.tables.proofs.SameLaws.{same-ground, ground-R2, ground-R3, same-R4, same-R5, same-R6, same-owned, same-R8}
 
 -- a write outside an index table leaves it
 pub table-kept : {b b' : List ℕ} {o n : ℕ} (p : Places) (i : ℕ) → Kept b b' o n → Apart (p .indextable + 128 * (i - 1)) 128 o n → tableAt p b' i ≡ tableAt p b i
@@ -38,6 +39,10 @@ table-kept {b} {b'} {o} {n} p i k a =
         getD-part b' (p .indextable + 128 * (i - 1)) 128 j l
         ∙ k .out (p .indextable + 128 * (i - 1) + j) (⊎-elim (λ h. inl (omega arith)) (λ h. inr (omega arith)) a)
         ∙ sym (getD-part b (p .indextable + 128 * (i - 1)) 128 j l)
+
+-- what is written apart from the header pointer leaves its law
+pub header-kept : {t t' : List ℕ} {o n : ℕ} → Kept t t' o n → Apart 58 6 o n → HeaderLaw t → HeaderLaw t'
+header-kept k a h = record { zero = λ j l. k .out (58 + j) (⊎-elim (λ q. inl (omega arith)) (λ q. inr (omega arith)) a) ∙ h .zero j l }
 
 -- ---- writes into sector 1
 
@@ -92,7 +97,7 @@ module _ (b b' : List ℕ) (k : Kept b b' 1024 1024) where
     }
 
     -- with the first free index as it was, what is left to show is R9
-    pub sector1-lawful : firstFreeOf b' ≡ firstFreeOf b → R9 (viewOf p b') → Lawful p b → Lawful p b'
+    pub sector1-lawful : {extra : ℕ → ℕ} → firstFreeOf b' ≡ firstFreeOf b → R9 (viewOf p b') → LawfulWith extra p b → LawfulWith extra p b'
     sector1-lawful head r9 h =
         let s = sector1-same head in
         let v = viewOf p b in
@@ -104,13 +109,13 @@ module _ (b b' : List ℕ) (k : Kept b b' 1024 1024) where
           r4 = same-R4 v v' s (h .r4);
           r5 = same-R5 v v' s (h .r5);
           r6 = same-R6 v v' s (h .r6);
-          r7 = same-R7 v v' s (h .r7);
+          r7 = same-owned v v' s (h .r7);
           r8 = same-R8 v v' s (h .r6) (h .r8);
           r9 = r9;
         }
 
   -- and with N too, all of the books' numbers
-  pub sector1-good : (p : Places) → indexesOf b' ≡ indexesOf b → firstFreeOf b' ≡ firstFreeOf b → R9 (viewOf p b') → Good b p → Good b' p
+  pub sector1-good : (p : Places) {extra : ℕ → ℕ} → indexesOf b' ≡ indexesOf b → firstFreeOf b' ≡ firstFreeOf b → R9 (viewOf p b') → GoodWith extra b p → GoodWith extra b' p
   sector1-good p n head r9 g = record {
     places = g .places ∙ sym (sector1-places n);
     sized = sector1-sized (g .sized);

@@ -8,7 +8,7 @@ use borrow.Author.Tests.{eq-eqb, ne-eqb}
 use Rattle.field.specs.Parts.{AllBytes}
 use Rattle.field.proofs.Sums.{sum-zero, sum-one}
 use Rattle.tables.specs.Indexes.{wordOf, linkOf}
-use Rattle.tables.specs.Views.{View, Free, walk, next, onlyIf, tally, overOf, pointersOver}
+use Rattle.tables.specs.Views.{View, Free, walk, next, onlyIf, tally, claimsOf, claimsOver}
 use Rattle.tables.specs.Rules.R2.{Reads, ZoneBits, R2}
 use Rattle.tables.specs.Rules.R3.{R3}
 use Rattle.tables.specs.Rules.R4.{R4}
@@ -122,8 +122,8 @@ module _ (v : View) (f : Fresh v) where
   })
 
   pub fresh-R7 : R7 v
-  unfolding pointersOver
-  fresh-R7 s l lo = none (λ i t. overOf i t s) (λ i t h e. over-none i t s e) ∙ sym (f .clear s l lo)
+  unfolding claimsOver
+  fresh-R7 = record { count = λ s l lo. omega (arith, none (λ i t. claimsOf i t s) (λ i t h e. over-none i t s e), f .clear s l lo) }
 
   pub fresh-R8 : R8 v
   fresh-R8 p l lo e = absurd (omega (arith, f .words p lo (omega arith)))

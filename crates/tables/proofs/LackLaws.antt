@@ -11,22 +11,22 @@ use borrow.Author.Tests.{eq-eqb, ne-eqb, leb-true, leb-false}
 use Rattle.field.specs.Says.{Says}
 use Rattle.field.specs.Sum.{sumTo}
 use Rattle.field.proofs.Sums.{sum-more}
-use Rattle.tables.proofs.BlockLaws.{block-of}
+use Rattle.tables.proofs.BlockLaws.{data-block}
 use Rattle.tables.specs.declared.zone.ZoneEntry.{ZoneEntry}
-use Rattle.tables.specs.Blocks.{Typed, blockOf, perZone}
+use Rattle.tables.specs.Blocks.{DataType, blockOf, perZone}
 use Rattle.tables.specs.Open.{isOpen, openZones}
 use Rattle.tables.specs.Room.{countAt, spareIn, spareOf, lackOf, Enough}
 use Rattle.tables.specs.Views.{View, onlyIf}
 
 -- a zone has a block at least
-pub some-blocks : (t : ℕ) → Typed t → 0 < perZone t
-some-blocks t typed = go (1024 / blockOf t) (block-of t typed .whole)
+pub some-blocks : (t : ℕ) → DataType t → 0 < perZone t
+some-blocks t typed = go (perZone t) (data-block t typed .whole)
   where
     go : (n : ℕ) → n * blockOf t ≡ 1024 → 0 < n
     go zero e = absurd (omega arith)
     go (suc n) e = omega arith
 
-pub per-some : (t per : ℕ) → Typed t → per ≡ perZone t → 0 < per
+pub per-some : (t per : ℕ) → DataType t → per ≡ perZone t → 0 < per
 per-some t per typed e = omega (arith, some-blocks t typed)
 
 -- ---- the free blocks of a zone, whose test for being open is r
@@ -46,7 +46,7 @@ module _ (t : ℕ) (e : ZoneEntry) (r : Bool) (is : r ≡ isOpen e) where
 
 -- ---- the zones that n blocks of type t take beyond f free ones
 
-module _ (v : View) (t n f : ℕ) (typed : Typed t) (is : f ≡ spareOf v t) where
+module _ (v : View) (t n f : ℕ) (typed : DataType t) (is : f ≡ spareOf v t) where
   pub lack-none : n ≤ f → 0 ≡ lackOf v t n
   unfolding lackOf
   lack-none h =

@@ -1,5 +1,5 @@
 -- Sectors under pointers: a run as a function that is 1 on it, and what R7's count says of single pointers.
-use mathlib.Core.Path.{_≡_}
+use mathlib.Core.Path.{_≡_, refl}
 use mathlib.Core.Logic.{_⊎_, inl, inr, ⊎-elim}
 use mathlib.Core.List.{List}
 use Prim.Native.Nat.{ℕ, _+_, _-_, _*_, _≤_, _<_}
@@ -8,9 +8,9 @@ use native.Mathlib.Omega.{arith}
 use borrow.Author.Tests.{le-leb, lt-leb, lt-ltb, le-ltb}
 use Rattle.field.proofs.Sums.{sum-zero, sum-some, sum-single, sum-part, sum-once}
 use Rattle.tables.specs.Indexes.{wordOf, slotsOf, startOf, countOf}
-use Rattle.tables.specs.Views.{View, cov, overOf, tally, pointersOver, Under}
+use Rattle.tables.specs.Views.{View, cov, overOf, tally, pointersOver, claimsOf, claimsOver, Under}
 use Rattle.tables.specs.Rules.R6.{R6}
-use Rattle.tables.specs.Rules.R7.{R7}
+use Rattle.tables.specs.Rules.R7.{Owned, R7}
 use Rattle.tables.proofs.IndexLaws.{slots-free}
 
 -- ---- runs
@@ -63,21 +63,21 @@ module _ (v : View) (s : ℕ) where
   unfolding overOf
   over-at i j u = omega (arith, cov-in _ _ s (u .from) (u .to), sum-part (slotsOf i (v .table i)) j (λ j. cov (startOf i (v .table i) j) (countOf i (v .table i) j) s) (u .slot))
 
-  pub under-counts : (i j : ℕ) → Under v i j s → 0 < pointersOver v s
+  under-counts : (i j : ℕ) → Under v i j s → 0 < pointersOver v s
   unfolding pointersOver tally
   under-counts i j u =
       let a : i - 1 + 1 ≡ i = omega (arith, u .low) in
       omega (arith, over-at i j u, rw a at (sum-part (v .indexes) (i - 1) (λ n. overOf (n + 1) (v .table (n + 1)) s) (omega (arith, u .low, u .high))))
 
   -- a set sector is under a pointer, and no sector is under two
-  pub under-some : 0 < pointersOver v s → (i : ℕ) × (j : ℕ) × Under v i j s
+  under-some : 0 < pointersOver v s → (i : ℕ) × (j : ℕ) × Under v i j s
   unfolding overOf pointersOver tally
   under-some h =
       let o = sum-some (v .indexes) _ h in
       let p = sum-some (slotsOf (o .0 + 1) (v .table (o .0 + 1))) _ (o .2) in
       (o .0 + 1, p .0, ⊎-elim (λ c. record { low = omega arith; high = omega (arith, o .1); slot = p .1; from = c .low; to = c .high }) (λ z. absurd (omega (arith, p .2))) (cov-cases _ _ s))
 
-  pub under-one : pointersOver v s ≤ 1 → (i j : ℕ) → Under v i j s → (k l : ℕ) → Under v k l s → (i ≡ k) × (j ≡ l)
+  under-one : pointersOver v s ≤ 1 → (i j : ℕ) → Under v i j s → (k l : ℕ) → Under v k l s → (i ≡ k) × (j ≡ l)
   unfolding overOf pointersOver tally
   under-one h i j u k l w =
       let f : ℕ → ℕ = λ n. overOf (n + 1) (v .table (n + 1)) s in
@@ -94,14 +94,32 @@ module _ (v : View) (s : ℕ) where
             j (u .slot) (omega (arith, cov-in _ _ s (u .from) (u .to))) l (w' .slot) (omega (arith, cov-in _ _ s (w' .from) (w' .to))),
       )
 
--- no pointer of a free table lies over a sector
-pub over-none : (i : ℕ) (t : List ℕ) (s : ℕ) → wordOf t ≡ 0 → overOf i t s ≡ 0
-unfolding overOf
+-- ---- claims
+
+module _ (v : View) (s : ℕ) where
+  -- pointers are the only claims
+  pub claims-are : claimsOver v s ≡ pointersOver v s
+  unfolding claimsOver claimsOf pointersOver
+  claims-are = refl
+
+  -- what lies under a pointer is claimed
+  pointers-le : pointersOver v s ≤ claimsOver v s
+  pointers-le = omega (arith, claims-are)
+
+  pub under-claims : (i j : ℕ) → Under v i j s → 0 < claimsOver v s
+  under-claims i j u = omega (arith, under-counts v s i j u, pointers-le)
+
+  pub claimed-under : 0 < claimsOver v s → (i : ℕ) × (j : ℕ) × Under v i j s
+  claimed-under h = under-some v s (omega (arith, claims-are))
+
+-- a free table claims no sector
+pub over-none : (i : ℕ) (t : List ℕ) (s : ℕ) → wordOf t ≡ 0 → claimsOf i t s ≡ 0
+unfolding claimsOf overOf
 over-none i t s e = sum-zero (slotsOf i t) _ (λ k l. absurd (omega (arith, slots-free i t e)))
 
 -- ---- R7 in the paper's words
 
-module _ (v : View) (r6 : R6 v) (r7 : R7 v) (bits : (s : ℕ) → v .bit s < 2) where
+module _ (v : View) {extra : ℕ → ℕ} (r6 : R6 v) (r7 : Owned v extra) (bits : (s : ℕ) → v .bit s < 2) where
   -- what lies under a pointer lies outside zones 1 and Z
   pub under-inside : (i j s : ℕ) → Under v i j s → (1024 ≤ s) × (s < 1024 * (v .zones - 1))
   under-inside i j s u =
@@ -112,16 +130,21 @@ module _ (v : View) (r6 : R6 v) (r7 : R7 v) (bits : (s : ℕ) → v .bit s < 2) 
   pub one-pointer : (s i j k l : ℕ) → Under v i j s → Under v k l s → (i ≡ k) × (j ≡ l)
   one-pointer s i j k l u w =
       let h = under-inside i j s u in
-      under-one v s (omega (arith, r7 s (h .1) (h .0), bits s)) i j u k l w
+      under-one v s (omega (arith, r7 .count s (h .1) (h .0), bits s, pointers-le v s)) i j u k l w
 
-  -- "the set bits are exactly the sectors under pointers"
-  pub set-under : (s : ℕ) → s < 1024 * (v .zones - 1) → 1024 ≤ s → v .bit s ≡ 1 → (i : ℕ) × (j : ℕ) × Under v i j s
-  set-under s l h e = under-some v s (omega (arith, r7 s l h))
+  -- "the set bits are exactly the sectors under pointers", and those that are set besides
+  pub set-under : (s : ℕ) → s < 1024 * (v .zones - 1) → 1024 ≤ s → v .bit s ≡ 1 → extra s ≡ 0 → (i : ℕ) × (j : ℕ) × Under v i j s
+  set-under s l h e none = claimed-under v s (omega (arith, r7 .count s l h))
+
+  pub extra-set : (s : ℕ) → s < 1024 * (v .zones - 1) → 1024 ≤ s → 0 < extra s → (v .bit s ≡ 1) × ((i j : ℕ) → Under v i j s → ⊥)
+  extra-set s l h some =
+      let q = r7 .count s l h in
+      (omega (arith, bits s), λ i j u. omega (arith, bits s, under-claims v s i j u))
 
   pub under-set : (s i j : ℕ) → Under v i j s → v .bit s ≡ 1
   under-set s i j u =
       let h = under-inside i j s u in
-      omega (arith, r7 s (h .1) (h .0), bits s, under-counts v s i j u)
+      omega (arith, r7 .count s (h .1) (h .0), bits s, under-claims v s i j u)
 
 -- ---- the paper's words give the counting form
 
@@ -142,7 +165,7 @@ module _ (v : View) (s : ℕ) (one : (i j k l : ℕ) → Under v i j s → Under
   unfolding overOf
   over-place i lo hi h = let p = sum-some (slotsOf i (v .table i)) _ h in (p .0, at-slot i (p .0) lo hi (p .1) (p .2))
 
-  pub over-once : pointersOver v s ≤ 1
+  over-once : pointersOver v s ≤ 1
   unfolding pointersOver tally
   over-once =
       sum-once (v .indexes) (λ n. overOf (n + 1) (v .table (n + 1)) s) (λ n l. over-few (n + 1) (omega arith) (omega arith)) (λ n l m k hn hm.
@@ -151,15 +174,25 @@ module _ (v : View) (s : ℕ) (one : (i j k l : ℕ) → Under v i j s → Under
       let e : n + 1 ≡ m + 1 = one (n + 1) (a .0) (m + 1) (b .0) (a .1) (b .1) .0 in
       omega arith))
 
+-- with nothing set besides, R7 says that as many pointers lie over a sector as its bit is, and nothing else
+pub R7-pointers : (v : View) → R7 v → (s : ℕ) → s < 1024 * (v .zones - 1) → 1024 ≤ s → pointersOver v s ≡ v .bit s
+R7-pointers v r s l lo = omega (arith, r .count s l lo, claims-are v s)
+
+pub pointers-R7 : (v : View) → ((s : ℕ) → s < 1024 * (v .zones - 1) → 1024 ≤ s → pointersOver v s ≡ v .bit s) → R7 v
+pointers-R7 v h = record { count = λ s l lo. omega (arith, h s l lo, claims-are v s) }
+
 -- R7 follows from "No sector is under two pointers. Outside zones 1 and Z the set bits are exactly the sectors under pointers."
 pub words-R7 : (v : View) → ((s : ℕ) → v .bit s < 2) → ((s i j k l : ℕ) → Under v i j s → Under v k l s → (i ≡ k) × (j ≡ l))
     → ((s : ℕ) → s < 1024 * (v .zones - 1) → 1024 ≤ s → v .bit s ≡ 1 → (i : ℕ) × (j : ℕ) × Under v i j s)
     → ((s i j : ℕ) → s < 1024 * (v .zones - 1) → 1024 ≤ s → Under v i j s → v .bit s ≡ 1) → R7 v
-words-R7 v bits one set under s l lo =
-    elim (ℕ-discrete (v .bit s) 1) [
-      | yes e ↦ (let u = set s l lo e in omega (arith, over-once v s (one s), under-counts v s (u .0) (u .1) (u .2)))
-      | no ne ↦ elim (decLt 0 (pointersOver v s)) [
-        | yes h ↦ (let u = under-some v s h in absurd (ne (under s (u .0) (u .1) l lo (u .2))))
-        | no h ↦ (let z : v .bit s ≡ 0 = omega (arith, bits s) in omega arith)
-      ]
-    ]
+words-R7 v bits one set under = pointers-R7 v count
+  where
+    count : (s : ℕ) → s < 1024 * (v .zones - 1) → 1024 ≤ s → pointersOver v s ≡ v .bit s
+    count s l lo =
+        elim (ℕ-discrete (v .bit s) 1) [
+          | yes e ↦ (let u = set s l lo e in omega (arith, over-once v s (one s), under-counts v s (u .0) (u .1) (u .2)))
+          | no ne ↦ elim (decLt 0 (pointersOver v s)) [
+            | yes h ↦ (let u = under-some v s h in absurd (ne (under s (u .0) (u .1) l lo (u .2))))
+            | no h ↦ (let z : v .bit s ≡ 0 = omega (arith, bits s) in omega arith)
+          ]
+        ]

@@ -10,11 +10,11 @@ use lib.Dec.{eqb, leb, ltb}
 use borrow.Author.Tests.{eqb-true, eq-eqb, ne-eqb, leb-true, ltb-true, le-leb, lt-ltb}
 use Rattle.field.specs.Sum.{sumTo}
 use Rattle.field.proofs.Sums.{sum-same, sum-full}
-use Rattle.tables.proofs.BlockLaws.{block-of, block-in}
+use Rattle.tables.proofs.BlockLaws.{zone-data, block-of, data-block, block-in}
 use Rattle.tables.proofs.ChoiceLaws.{count, under, fit, size, begun, firsts, lack, handed, choice-needs, choice-enough, owner-low, owner-high}
 use Rattle.tables.proofs.LackLaws.{some-blocks}
 use Rattle.tables.proofs.OpenLaws.{open-untyped, open-typed}
-use Rattle.tables.specs.Blocks.{Typed, Block, blockOf, perZone}
+use Rattle.tables.specs.Blocks.{ZoneType, DataType, Block, blockOf, perZone}
 use Rattle.tables.specs.Kinds.{firstOf}
 use Rattle.tables.specs.Open.{isOpen, openZones}
 use Rattle.tables.specs.Room.{typeIn, FreeBlock, takenOf, Supply, spareIn, spareOf, lackOf, Enough}
@@ -49,7 +49,7 @@ all-clear bit from size block blocks n l =
 
 module _ (v : View) (r2 : R2 v) (z : ℕ) (low : 2 ≤ z) (high : z < v .zones) where
   -- a zone that is not open has a type
-  pub begun-typed : isOpen (v .zone z) ≡ false → Typed (v .zone z .ztype)
+  pub begun-typed : isOpen (v .zone z) ≡ false → ZoneType (v .zone z .ztype)
   begun-typed h =
       ⊎-elim (λ u. absurd (let e = open-untyped (v .zone z) (u .reads .ztype) in let q : _≡_ {A = ℕ} 0 1 = cc in omega arith)) (λ u. u .typed)
       (r2 z (omega arith) (omega arith) .other low high)
@@ -60,8 +60,8 @@ module _ (v : View) (r2 : R2 v) (z : ℕ) (low : 2 ≤ z) (high : z < v .zones) 
     where
       used : InUse v z → ZoneBits v z 0
       used u =
-          let e : v .zone z .free ≡ 1024 / blockOf (v .zone z .ztype) = eqb-true _ _ (open-typed (v .zone z) _ (u .typed .low) (u .typed .high) refl ∙ h) in
-          let k : Blocks (v .bit) (firstOf z) (blockOf (v .zone z .ztype)) (1024 / blockOf (v .zone z .ztype)) = rw e at (r3 z high low (u .typed)) in
+          let e : v .zone z .free ≡ perZone (v .zone z .ztype) = eqb-true _ _ (open-typed (v .zone z) _ (u .typed) refl ∙ h) in
+          let k : Blocks (v .bit) (firstOf z) (blockOf (v .zone z .ztype)) (perZone (v .zone z .ztype)) = rw e at (r3 z high low (u .typed)) in
           all-clear (v .bit) (firstOf z) (blockOf (v .zone z .ztype)) (block-of _ (u .typed)) k
 
 -- ---- the type of a zone in a choice
@@ -121,7 +121,7 @@ module _ (v : View) where
         go : (o : Bool) → opens i ≡ o → (o || frees i k) ≡ true
         go true h = refl
         go false h =
-            let e = f .clear 0 (block-of _ (f .typed) .some) in
+            let e = f .clear 0 (data-block _ (f .typed) .some) in
             eq-eqb _ _ (rw (type-begun v given (i + 2) h, add-zero) at e)
 
     pub supply-enough : (c : ℕ → ℕ) → Supply v c → Enough v c
@@ -135,13 +135,13 @@ module _ (v : View) where
     -- ---- and has enough with them
 
     -- a block that fits is free in a zone of type u, which is its own if it is not open
-    fits-clear : (i k u : ℕ) → i < v .zones - 2 → Typed u → (opens i ≡ false → u ≡ types i) → k < perZone u → fit opens types frees perZone i k ≡ true
+    fits-clear : (i k u : ℕ) → i < v .zones - 2 → DataType u → (opens i ≡ false → u ≡ types i) → k < perZone u → fit opens types frees perZone i k ≡ true
         → (j : ℕ) → j < blockOf u → v .bit (firstOf (i + 2) + k * blockOf u + j) ≡ 0
     fits-clear i k u hi typed own w f j l = go (opens i) refl f
       where
         go : (o : Bool) → opens i ≡ o → (o || frees i k) ≡ true → v .bit (firstOf (i + 2) + k * blockOf u + j) ≡ 0
         go true h q =
-            let b = block-in k (blockOf u) (block-of u typed) w in
+            let b = block-in k (blockOf u) (data-block u typed) w in
             let e : firstOf (i + 2) + k * blockOf u + j ≡ firstOf (i + 2) + (k * blockOf u + j) = omega arith in
             ap (v .bit) e ∙ open-clear v r2 (i + 2) (omega arith) (omega arith) r3 h (k * blockOf u + j) (omega arith)
         go false h q =
@@ -162,15 +162,15 @@ module _ (v : View) where
       abbrev taken : ℕ → ℕ → Bool
       taken z k = leb 2 z && (ltb z (v .zones) && (ltb k (perZone (typeIn v given z)) && chosen (z - 2) k))
 
-      given-typed : (z : ℕ) → Typed (given z)
+      given-typed : (z : ℕ) → DataType (given z)
       given-typed z = record { low = owner-low _ 6 _; high = owner-high _ 5 _ }
 
-      in-typed : (z : ℕ) → 2 ≤ z → z < v .zones → Typed (typeIn v given z)
+      in-typed : (z : ℕ) → 2 ≤ z → z < v .zones → DataType (typeIn v given z)
       in-typed z lo hi = go (isOpen (v .zone z)) refl
         where
-          go : (o : Bool) → isOpen (v .zone z) ≡ o → Typed (typeIn v given z)
+          go : (o : Bool) → isOpen (v .zone z) ≡ o → DataType (typeIn v given z)
           go true h = rw (type-open v given z h) (given-typed z)
-          go false h = rw (type-begun v given z h) (begun-typed v r2 z lo hi h)
+          go false h = rw (type-begun v given z h) (zone-data (begun-typed v r2 z lo hi h))
 
       free-here : (i k : ℕ) → i < v .zones - 2 → k < perZone (typeIn v given (i + 2)) → chosen i k ≡ true → FreeBlock v given (i + 2) k
       free-here i k hi w h = record {

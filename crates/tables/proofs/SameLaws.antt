@@ -9,14 +9,14 @@ use Rattle.tables.specs.declared.zone.ZoneEntry.{ZoneEntry}
 use Rattle.tables.specs.Kinds.{zoneOf, firstOf}
 use Rattle.tables.specs.Blocks.{Block, blockOf}
 use Rattle.tables.specs.Indexes.{wordOf, parentOf, linkOf, startOf}
-use Rattle.tables.specs.Views.{View, Begins, Parent, Child, walk, next, tally, overOf, pointersOver, Under}
+use Rattle.tables.specs.Views.{View, Begins, Parent, Child, walk, next, tally, claimsOf, claimsOver, Under}
 use Rattle.tables.specs.Same.{Same, Ground}
 use Rattle.tables.specs.Rules.R2.{ZoneBits, R2}
 use Rattle.tables.specs.Rules.R3.{Blocks, R3}
 use Rattle.tables.specs.Rules.R4.{R4}
 use Rattle.tables.specs.Rules.R5.{FileChain, Stands, R5}
 use Rattle.tables.specs.Rules.R6.{Run, Shape, R6}
-use Rattle.tables.specs.Rules.R7.{R7}
+use Rattle.tables.specs.Rules.R7.{Owned}
 use Rattle.tables.specs.Rules.R8.{fileSectors, fileType, InType, File, R8}
 use Rattle.tables.specs.Rules.R9.{freeOne, activeOne, deletedOne, systemOne, directoryOne, R9}
 use Rattle.tables.proofs.BlockLaws.{block-of, block-in}
@@ -157,14 +157,14 @@ module _ (v v' : View) (s : Same v v') where
   unfolding tally
   same-tally f = rw (s .indexes) (sum-same (v .indexes) _ _ (λ k l. ap (f (k + 1)) (s .table (k + 1) (omega arith) (omega arith))))
 
-  pub same-over : (n : ℕ) → pointersOver v' n ≡ pointersOver v n
-  unfolding pointersOver
-  same-over n = same-tally (λ i t. overOf i t n)
+  pub same-over : (n : ℕ) → claimsOver v' n ≡ claimsOver v n
+  unfolding claimsOver
+  same-over n = same-tally (λ i t. claimsOf i t n)
 
-  pub same-R7 : R7 v → R7 v'
-  same-R7 r n l lo =
-      let l' : n < 1024 * (v .zones - 1) = rw (s .zones) at l in
-      same-over n ∙ r n l' lo ∙ sym (s .bit n (omega arith))
+  pub same-owned : {extra : ℕ → ℕ} → Owned v extra → Owned v' extra
+  same-owned r = record {
+    count = λ n l lo. (let l' : n < 1024 * (v .zones - 1) = rw (s .zones) at l in omega (arith, same-over n, r .count n l' lo, s .bit n (omega arith)));
+  }
 
   -- ---- files
 

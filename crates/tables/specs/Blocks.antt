@@ -1,9 +1,22 @@
 -- "Types 3 to 8 are C to H, with blocks of 1, 4, 16, 64, 256, 1024 sectors."
 use mathlib.Core.Path.{_≡_}
-use Prim.Native.Nat.{ℕ, _+_, _-_, _*_, _/_, _^_, _≤_, _<_}
+use mathlib.Core.Bool.{Bool, _&&_}
+use mathlib.Core.List.{List, [], _∷_}
+use Prim.Native.Nat.{ℕ, _+_, _-_, _*_, _/_, _≤_, _<_}
+use lib.Dec.{leb}
+use lib.ListN.{getD}
 
--- a zone of type 3-8
-pub record Typed (t : ℕ) : Type 0 where
+-- a type that a zone in use may have, "type 3-8": what R2, R3, open zones and the giving back of blocks ask
+pub record ZoneType (t : ℕ) : Type 0 where
+  pub low : 3 ≤ t
+  pub high : t ≤ 8
+
+-- the same as a test
+unfoldable pub isZoneType : ℕ → Bool
+isZoneType t = leb 3 t && leb t 8
+
+-- a type of the zones in which files lie, C to H: what runs, counts and room ask
+pub record DataType (t : ℕ) : Type 0 where
   pub low : 3 ≤ t
   pub high : t ≤ 8
 
@@ -12,9 +25,13 @@ pub record Typed (t : ℕ) : Type 0 where
 abbrev pub typeAt : ℕ → ℕ
 typeAt k = k + 3
 
--- the sectors of a block of zones of type t
+-- "blocks of 1, 4, 16, 64, 256, 1024 sectors", by type from 3 on
+abbrev pub blockSizes : List ℕ
+blockSizes = 1 ∷ 4 ∷ 16 ∷ 64 ∷ 256 ∷ 1024 ∷ []
+
+-- the sectors of a block of zones of type t; one for a number that is no type, so that no block is empty
 unfoldable pub blockOf : ℕ → ℕ
-blockOf t = 4 ^ (t - 3)
+blockOf t = getD blockSizes (t - 3) 1
 
 -- the blocks of a zone of type t
 abbrev pub perZone : ℕ → ℕ

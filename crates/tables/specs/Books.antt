@@ -9,7 +9,8 @@ use Rattle.tables.specs.declared.places.Places.{Places}
 use Rattle.tables.specs.Gates.{Test, asks}
 use Rattle.tables.specs.Places.{placesOf, Layout}
 use Rattle.tables.specs.Rules.R1.{Stand}
-use Rattle.tables.specs.Lawful.{Lawful}
+use Rattle.tables.specs.Rules.R7.{nothing}
+use Rattle.tables.specs.Lawful.{LawfulWith, Lawful}
 
 -- 1 "books not S × 1,024 bytes, S allowed", 5 to 1,024
 pub record Sized (b : List ℕ) : Type 0 where
@@ -44,11 +45,15 @@ placeTests b = asks 1 (Sized b) ∷ asks 2 (Marked b) ∷ asks 3 (Placed b) ∷ 
 abbrev pub bookTests : List ℕ → List Test
 bookTests b = placeTests b ++ (asks 4 (Lawful (placesOf b) b) ∷ [])
 
--- books that none of them refuses, with their places
-pub record Good (b : List ℕ) (p : Places) : Type 0 where
+-- books that none of them refuses, with their places, R7 with `extra` set besides
+pub record GoodWith (extra : ℕ → ℕ) (b : List ℕ) (p : Places) : Type 0 where
   pub places : p ≡ placesOf b
   pub sized : Sized b
   pub marked : Marked b
   pub placed : Placed b
   pub layout : Layout p (length b)
-  pub lawful : Lawful p b
+  pub lawful : LawfulWith extra p b
+
+-- books that none of them refuses
+abbrev pub Good : List ℕ → Places → Type 0
+Good = GoodWith nothing

@@ -9,18 +9,22 @@ use Rattle.tables.specs.Rules.R3.{R3}
 use Rattle.tables.specs.Rules.R4.{R4}
 use Rattle.tables.specs.Rules.R5.{R5}
 use Rattle.tables.specs.Rules.R6.{R6}
-use Rattle.tables.specs.Rules.R7.{R7}
+use Rattle.tables.specs.Rules.R7.{Owned, nothing}
 use Rattle.tables.specs.Rules.R8.{R8}
 use Rattle.tables.specs.Rules.R9.{R9}
 
--- the books b, whose tables stand at p, break no rule
-pub record Lawful (p : Places) (b : List ℕ) : Type 0 where
+-- the books b, whose tables stand at p, break no rule, R7 with `extra` set besides
+pub record LawfulWith (extra : ℕ → ℕ) (p : Places) (b : List ℕ) : Type 0 where
   pub r1 : R1 p b
   pub r2 : R2 (viewOf p b)
   pub r3 : R3 (viewOf p b)
   pub r4 : R4 (viewOf p b)
   pub r5 : R5 (viewOf p b)
   pub r6 : R6 (viewOf p b)
-  pub r7 : R7 (viewOf p b)
+  pub r7 : Owned (viewOf p b) extra
   pub r8 : R8 (viewOf p b)
   pub r9 : R9 (viewOf p b)
+
+-- they break no rule
+abbrev pub Lawful : Places → List ℕ → Type 0
+Lawful = LawfulWith nothing

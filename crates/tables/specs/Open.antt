@@ -1,15 +1,16 @@
 -- "An open zone has type 0, or type 3-8 with every block free."
 use mathlib.Core.Bool.{Bool, _&&_, _||_}
 use Prim.Native.Nat.{ℕ, _+_, _-_}
-use lib.Dec.{eqb, leb}
+use lib.Dec.{eqb}
 use Rattle.field.specs.Sum.{sumTo}
 use Rattle.tables.specs.declared.zone.ZoneEntry.{ZoneEntry}
-use Rattle.tables.specs.Blocks.{perZone}
+use Rattle.tables.specs.Blocks.{isZoneType, perZone}
 use Rattle.tables.specs.Views.{View, onlyIf}
 
 -- a zone that reads so
 unfoldable pub isOpen : ZoneEntry → Bool
-isOpen e = eqb (e .ztype) 0 || (leb 3 (e .ztype) && (leb (e .ztype) 8 && eqb (e .free) (perZone (e .ztype))))
+unfolding isZoneType
+isOpen e = eqb (e .ztype) 0 || (isZoneType (e .ztype) && eqb (e .free) (perZone (e .ztype)))
 
 -- how many of zones 2 to Z - 1 are open
 unfoldable pub openZones : View → ℕ

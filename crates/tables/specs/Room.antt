@@ -10,7 +10,7 @@ use lib.ListN.{getD}
 use Rattle.field.specs.Sum.{sumTo}
 use Rattle.tables.specs.declared.zone.ZoneEntry.{ZoneEntry}
 use Rattle.tables.specs.Kinds.{firstOf}
-use Rattle.tables.specs.Blocks.{Typed, typeAt, blockOf, perZone}
+use Rattle.tables.specs.Blocks.{DataType, typeAt, blockOf, perZone}
 use Rattle.tables.specs.Each.{Each}
 use Rattle.tables.specs.Views.{View, onlyIf}
 use Rattle.tables.specs.Open.{isOpen, openZones}
@@ -30,7 +30,7 @@ typeIn v given z = cond (isOpen (v .zone z)) (given z) (v .zone z .ztype)
 pub record FreeBlock (v : View) (given : ℕ → ℕ) (z k : ℕ) : Type 0 where
   pub low : 2 ≤ z
   pub high : z < v .zones
-  pub typed : Typed (typeIn v given z)
+  pub typed : DataType (typeIn v given z)
   pub within : k < perZone (typeIn v given z)
   pub clear : (j : ℕ) → j < blockOf (typeIn v given z) → v .bit (firstOf z + k * blockOf (typeIn v given z) + j) ≡ 0
 
@@ -43,10 +43,10 @@ takenOf v given taken t =
 -- so that its members are distinct
 pub record Supply (v : View) (c : ℕ → ℕ) : Type 0 where
   pub given : ℕ → ℕ
-  pub types : Each (λ z. isOpen (v .zone z) ≡ true → Typed (given z)) 2 (v .zones)
+  pub types : Each (λ z. isOpen (v .zone z) ≡ true → DataType (given z)) 2 (v .zones)
   pub taken : ℕ → ℕ → Bool
   pub free : (z k : ℕ) → taken z k ≡ true → FreeBlock v given z k
-  pub supplies : (t : ℕ) → Typed t → takenOf v given taken t ≡ c t
+  pub supplies : (t : ℕ) → DataType t → takenOf v given taken t ≡ c t
 
 -- ---- the criterion
 

@@ -96,6 +96,14 @@ overOf i t s = sumTo (slotsOf i t) (λ j. cov (startOf i t j) (countOf i t j) s)
 unfoldable pub pointersOver : View → ℕ → ℕ
 pointersOver v s = tally v (λ i t. overOf i t s)
 
+-- what a table owns, as a count: how many of its claims lie over sector s, and how many of all tables. Its pointers are its claims
+-- (PointerLaws.claims-are)
+unfoldable pub claimsOf : ℕ → List ℕ → ℕ → ℕ
+claimsOf i t s = overOf i t s
+
+unfoldable pub claimsOver : View → ℕ → ℕ
+claimsOver v s = tally v (λ i t. claimsOf i t s)
+
 -- sector s lies under the j-th pointer of index i
 pub record Under (v : View) (i j s : ℕ) : Type 0 where
   pub low : 1 ≤ i

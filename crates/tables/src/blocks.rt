@@ -2,16 +2,36 @@
 use crate::kinds::ZONE;
 ghost use mathlib.Core.Path.{_≡_};
 ghost use Prim.Native.Nat.{_*_, _/_};
-ghost use Rattle.tables.specs.Blocks.{Typed, blockOf, perZone, Block};
+ghost use Rattle.field.specs.Says.{Says};
+ghost use Rattle.tables.specs.Blocks.{ZoneType, DataType, blockOf, perZone, Block};
 
-// The types of zones that files lie in, C to H.
-pub const LOWEST: u32 = 3;
+// The types that a zone may have, C to H.
+const LOWEST: u32 = 3;
 
-pub const HIGHEST: u32 = 8;
+const HIGHEST: u32 = 8;
 
-// The sectors of a block of a zone of type t, C to H.
+pub fn is_zone_type(t: u32) -> bool
+    ensures { λ r. ⌜ Says r (ZoneType t) ⌝ }
+{
+    if t < LOWEST {
+        return false;
+    }
+    if t > HIGHEST {
+        return false;
+    }
+    true
+}
+
+// Do files lie in zones of type t?
+pub fn is_data_type(t: u32) -> bool
+    ensures { λ r. ⌜ Says r (DataType t) ⌝ }
+{
+    is_zone_type(t)
+}
+
+// The sectors of a block of a zone of type t.
 pub fn block_sectors(t: u32) -> u32
-    requires { ⌜ Typed t ⌝ }
+    requires { ⌜ ZoneType t ⌝ }
     ensures { λ r. ⌜ (r ≡ blockOf t) × Block r ⌝ }
 {
     1 << (2 * (t - LOWEST))
@@ -19,7 +39,7 @@ pub fn block_sectors(t: u32) -> u32
 
 // The blocks of a zone of type t.
 pub fn zone_blocks(t: u32) -> u32
-    requires { ⌜ Typed t ⌝ }
+    requires { ⌜ ZoneType t ⌝ }
     ensures { λ r. ⌜ r ≡ perZone t ⌝ }
 {
     ZONE / block_sectors(t)

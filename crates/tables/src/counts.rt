@@ -1,8 +1,9 @@
 // Counts per zone type: how many blocks of each type a new fixed file takes.
 use crate::blocks::block_sectors;
+use crate::kinds::SECTOR;
 ghost use mathlib.Core.Path.{_≡_};
 ghost use Prim.Native.Nat.{_*_, _≤_, _<_};
-ghost use Rattle.tables.specs.Blocks.{Typed};
+ghost use Rattle.tables.specs.Blocks.{DataType};
 ghost use Rattle.tables.specs.Counts.{typesOf, chosenTypes, weightOf, blockBytes, Shared, Countable, countsOf};
 
 // The zone types that a flag byte chooses, as the sum of their weights, or a flag byte that is not allowed.
@@ -48,7 +49,7 @@ pub fn chosen_types(flag: i32) -> Chosen
 
 // The weight of type t in a flag byte.
 fn type_weight(t: u32) -> u32
-    requires { ⌜ Typed t ⌝ }
+    requires { ⌜ DataType t ⌝ }
     ensures { λ r. ⌜ (r ≡ weightOf t) × (0 < r) ⌝ }
 {
     1 << (t - 1)
@@ -56,15 +57,15 @@ fn type_weight(t: u32) -> u32
 
 // The bytes of a block of type t.
 fn block_bytes(t: u32) -> u32
-    requires { ⌜ Typed t ⌝ }
+    requires { ⌜ DataType t ⌝ }
     ensures { λ r. ⌜ (r ≡ blockBytes t) × (0 < r) × (r ≤ 1048576) ⌝ }
 {
-    1024 * block_sectors(t)
+    SECTOR * block_sectors(t)
 }
 
 // One step: the blocks of type t for `rest` bytes, rounded up if no smaller type is chosen.
 fn share_of(flag: u32, t: u32, rest: u32) -> Share
-    requires { ⌜ Typed t × (rest ≤ 2147483647) ⌝ }
+    requires { ⌜ DataType t × (rest ≤ 2147483647) ⌝ }
     ensures { λ r. ⌜ Shared flag t rest (r .count) (r .rest) ⌝ }
 {
     let w = type_weight(t);

@@ -1,6 +1,10 @@
 // Format: empty books for a volume of given sizes and label. One function a part of the definition `formatted`.
 use crate::fresh::write_sector0;
 use crate::fresh::write_status;
+use crate::kinds::ROUND_UP_LEN;
+use crate::kinds::SECTOR_LEN;
+use crate::kinds::TABLE_LEN;
+use crate::kinds::ZONE_BITS;
 use crate::kinds::Zone;
 use crate::places::Places;
 use crate::zone::put_zone;
@@ -17,8 +21,8 @@ pub fn fresh_places(zones: u32, indexes: u32) -> Places
     requires { ⌜ zones ≤ 256 ⌝ }
     ensures { λ r. ⌜ r ≡ freshPlaces zones indexes ⌝ }
 {
-    let zonebytes = 1024 * ((6 * (zones as usize) + 1023) / 1024);
-    let sectorbytes = 1024 * ((zones as usize + 7) / 8);
+    let zonebytes = SECTOR_LEN * ((6 * (zones as usize) + ROUND_UP_LEN) / SECTOR_LEN);
+    let sectorbytes = SECTOR_LEN * ((zones as usize + 7) / 8);
     Places {
         zones: zones,
         indexes: indexes,
@@ -43,8 +47,13 @@ fn write_system(b: &mut [u8], p: Places)
     let zones = p.zones;
     put_zone(b, p, Zone(1), 1, 65535, zones);
     put_zone(b, p, Zone(zones), 65535, 65535, 1);
-    fill(b, p.sectortable, 128, 255);
-    fill(b, p.sectortable + 128 * (zones as usize - 1), 128, 255);
+    fill(b, p.sectortable, ZONE_BITS, 255);
+    fill(
+        b,
+        p.sectortable + ZONE_BITS * (zones as usize - 1),
+        ZONE_BITS,
+        255,
+    );
 }
 
 // The free chain 1, 2, .., N.
@@ -55,7 +64,7 @@ fn write_links(b: &mut [u8], p: Places)
     let last = p.indexes - 1;
     let mut k: u32 = 0;
     while k < last {
-        put_u32(b, p.indextable + 128 * (k as usize) + 124, k + 2);
+        put_u32(b, p.indextable + TABLE_LEN * (k as usize) + 124, k + 2);
         k += 1;
     }
 }

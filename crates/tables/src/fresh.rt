@@ -1,5 +1,9 @@
 // Format's first step: sectors 0 and 1 of fresh books, what the volume is and that it is empty.
 use crate::kinds::Index;
+use crate::kinds::ROUND_UP;
+use crate::kinds::SECTOR;
+use crate::kinds::TABLE;
+use crate::kinds::ZONE;
 use crate::sector0;
 use crate::sector1;
 ghost use mathlib.Core.Path.{_≡_};
@@ -59,9 +63,9 @@ fn write_limits(b: &mut [u8], zones: u32)
 {
     write_mark(b);
     sector0::put_zones(b, zones);
-    sector0::put_sectors_per_zone(b, 1024);
-    sector0::put_bytes_per_sector(b, 1024);
-    sector0::put_index_size(b, 128);
+    sector0::put_sectors_per_zone(b, ZONE);
+    sector0::put_bytes_per_sector(b, SECTOR);
+    sector0::put_index_size(b, TABLE);
 }
 
 // The start sectors of the three tables.
@@ -70,7 +74,7 @@ fn write_starts(b: &mut [u8], zones: u32)
     requires { ⌜ zones ≤ 256 ⌝ }
     ensures { λ _. ⌜ now (b .exit) ≡ putStarts (now (b .entry)) zones ⌝ }
 {
-    let sectorstart = 2 + (6 * zones + 1023) / 1024;
+    let sectorstart = 2 + (6 * zones + ROUND_UP) / SECTOR;
     let indexstart = sectorstart + (zones + 7) / 8;
     sector0::put_zone_start(b, 2);
     sector0::put_sector_start(b, sectorstart);

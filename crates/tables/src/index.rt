@@ -1,6 +1,7 @@
 // An index table of 128 bytes: a reader and a writer for each of its fields.
 use crate::kinds::Index;
 use crate::kinds::Sector;
+use crate::kinds::TABLE_LEN;
 use crate::places::Places;
 use field::numbers::get_u16;
 use field::numbers::get_u32;
@@ -21,15 +22,12 @@ pub struct Pointer {
     pub count: u32,
 }
 
-// The bytes of an index table.
-const TABLE: usize = 128;
-
 // The byte at which index table i begins.
 fn table_place(p: Places, i: Index) -> usize
     requires { ⌜ (1 ≤ i .0) × (i .0 ≤ 4096) × (p .indextable ≤ 1048576) ⌝ }
     ensures { λ r. ⌜ r ≡ tablePlace p (i .0) ⌝ }
 {
-    p.indextable + TABLE * (i.0 as usize - 1)
+    p.indextable + TABLE_LEN * (i.0 as usize - 1)
 }
 
 // The 128 bytes of index table i.
@@ -38,8 +36,8 @@ pub fn table<'a>(b: &'a [u8], p: Places, i: Index) -> &'a [u8]
     requires { ⌜ (1 ≤ i .0) × (i .0 ≤ p .indexes) ⌝ }
     ensures { λ r. ⌜ (now r ≡ tableAt p (now (b .entry)) (i .0)) × (length (now r) ≡ 128) ⌝ }
 {
-    let at = p.indextable + TABLE * (i.0 as usize - 1);
-    let end = at + TABLE;
+    let at = p.indextable + TABLE_LEN * (i.0 as usize - 1);
+    let end = at + TABLE_LEN;
     &b[at..end]
 }
 

@@ -1,6 +1,5 @@
 // Open zones: those that any type may take.
-use crate::blocks::HIGHEST;
-use crate::blocks::LOWEST;
+use crate::blocks::is_zone_type;
 use crate::blocks::zone_blocks;
 use crate::kinds::Zone;
 use crate::places::Places;
@@ -20,10 +19,7 @@ pub fn is_open(e: ZoneEntry) -> bool
     if t == 0 {
         return true;
     }
-    if t < LOWEST {
-        return false;
-    }
-    if t > HIGHEST {
+    if !is_zone_type(t) {
         return false;
     }
     e.free == zone_blocks(t)

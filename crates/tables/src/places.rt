@@ -1,4 +1,5 @@
 // Where the tables stand in the books, by value: what everything above reads of sector 0.
+use crate::kinds::SECTOR_LEN;
 use crate::sector0;
 use crate::sector1;
 ghost use mathlib.Core.Path.{_≡_};
@@ -22,8 +23,8 @@ pub fn read_places(b: &[u8]) -> Places
     Places {
         zones: sector0::zones(b),
         indexes: sector1::indexes(b),
-        zonetable: 1024 * (sector0::zone_start(b) as usize),
-        sectortable: 1024 * (sector0::sector_start(b) as usize),
-        indextable: 1024 * (sector0::index_start(b) as usize),
+        zonetable: SECTOR_LEN * (sector0::zone_start(b) as usize),
+        sectortable: SECTOR_LEN * (sector0::sector_start(b) as usize),
+        indextable: SECTOR_LEN * (sector0::index_start(b) as usize),
     }
 }

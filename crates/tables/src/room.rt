@@ -10,7 +10,7 @@ ghost use mathlib.Core.Path.{_≡_};
 ghost use Prim.Native.Nat.{_≤_};
 ghost use lib.ListN.{length};
 ghost use Rattle.field.specs.Says.{Says};
-ghost use Rattle.tables.specs.Blocks.{Typed};
+ghost use Rattle.tables.specs.Blocks.{DataType};
 ghost use Rattle.tables.specs.Places.{Layout};
 ghost use Rattle.tables.specs.Views.{viewOf};
 ghost use Rattle.tables.specs.Room.{countAt, spareIn, spareOf, lackOf, Enough};
@@ -46,7 +46,7 @@ fn spare_of(b: &[u8], p: Places, t: u32) -> u64
 // The open zones that n blocks of type t take.
 fn lack_of(b: &[u8], p: Places, t: u32, n: u32) -> u64
     requires { ⌜ Layout p (length (now b)) ⌝ }
-    requires { ⌜ Typed t ⌝ }
+    requires { ⌜ DataType t ⌝ }
     ensures { λ r. ⌜ (r ≡ lackOf (viewOf p (now (b .entry))) t n) × (r ≤ 4294968319) ⌝ }
 {
     let wanted = n as u64;

@@ -5,7 +5,7 @@ use mathlib.Core.Logic.{_⊎_}
 use Prim.Native.Nat.{ℕ, _+_, _≤_, _<_}
 use Rattle.tables.specs.declared.zone.ZoneEntry.{ZoneEntry}
 use Rattle.tables.specs.Kinds.{firstOf}
-use Rattle.tables.specs.Blocks.{Typed}
+use Rattle.tables.specs.Blocks.{ZoneType}
 use Rattle.tables.specs.Each.{Each}
 use Rattle.tables.specs.Views.{View}
 
@@ -26,7 +26,7 @@ pub record Untyped (v : View) (z : ℕ) : Type 0 where
 
 -- type 3-8 with third field 0
 pub record InUse (v : View) (z : ℕ) : Type 0 where
-  pub typed : Typed (v .zone z .ztype)
+  pub typed : ZoneType (v .zone z .ztype)
   pub third : v .zone z .third ≡ 0
 
 -- zone z: a system zone, first or last, or one of the others

@@ -3,7 +3,7 @@ use mathlib.Core.Path.{_≡_}
 use Prim.Native.Nat.{ℕ, _+_, _-_, _*_, _/_}
 use Rattle.field.specs.Sum.{sumTo}
 use Rattle.tables.specs.Kinds.{firstOf}
-use Rattle.tables.specs.Blocks.{Typed, blockOf, Whole}
+use Rattle.tables.specs.Blocks.{ZoneType, blockOf, Whole}
 use Rattle.tables.specs.Each.{Each}
 use Rattle.tables.specs.Views.{View}
 
@@ -18,7 +18,7 @@ pub record Blocks (bit : ℕ → ℕ) (from size free : ℕ) : Type 0 where
 
 -- zone z, if it is of type 3-8
 abbrev pub BlockLaw : View → ℕ → Type 0
-BlockLaw v z = Typed (v .zone z .ztype) → Blocks (v .bit) (firstOf z) (blockOf (v .zone z .ztype)) (v .zone z .free)
+BlockLaw v z = ZoneType (v .zone z .ztype) → Blocks (v .bit) (firstOf z) (blockOf (v .zone z .ztype)) (v .zone z .free)
 
 abbrev pub R3 : View → Type 0
 R3 v = Each (BlockLaw v) 2 (v .zones)

@@ -5,7 +5,7 @@ use Prim.Native.Nat.{ℕ, suc, _+_, _-_, _*_, _≤_, _<_}
 use mathlib.Core.List.{List}
 use Rattle.field.specs.Parts.{AllBytes}
 use Rattle.tables.specs.Kinds.{zoneOf, firstOf}
-use Rattle.tables.specs.Blocks.{Typed, blockOf, Whole}
+use Rattle.tables.specs.Blocks.{ZoneType, DataType, blockOf, Whole}
 use Rattle.tables.specs.Indexes.{wordOf, slotsOf, startOf, countOf, Used}
 use Rattle.tables.specs.Each.{Each}
 use Rattle.tables.specs.Views.{View, cov}
@@ -16,15 +16,19 @@ pub record Run (v : View) (a c : ℕ) : Type 0 where
   pub few : c ≤ 32767
   pub low : 1024 ≤ a
   pub high : a + c ≤ 1024 * (v .zones - 1)
-  pub typed : (s : ℕ) → s < a + c → a ≤ s → Typed (v .zone (zoneOf s) .ztype)
-  pub whole : (z : ℕ) → z < v .zones → 2 ≤ z → Typed (v .zone z .ztype) → Whole (cov a c) (firstOf z) (blockOf (v .zone z .ztype))
+  pub typed : (s : ℕ) → s < a + c → a ≤ s → DataType (v .zone (zoneOf s) .ztype)
+  pub whole : (z : ℕ) → z < v .zones → 2 ≤ z → ZoneType (v .zone z .ztype) → Whole (cov a c) (firstOf z) (blockOf (v .zone z .ztype))
+
+-- "a zero header pointer", of a parent whose bytes are t
+pub record HeaderLaw (t : List ℕ) : Type 0 where
+  pub zero : AllBytes t 58 6 0
 
 -- index i, whose bytes are t; an unused pointer is zero by what unused means
 pub record Shape (v : View) (i : ℕ) (t : List ℕ) : Type 0 where
   pub first : (j : ℕ) → suc j < slotsOf i t → Used i t (suc j) → Used i t j
   pub used : (j : ℕ) → j < slotsOf i t → Used i t j → Run v (startOf i t j) (countOf i t j)
   pub one : wordOf t ≡ i → Used i t 0
-  pub header : wordOf t ≡ i → AllBytes t 58 6 0
+  pub header : wordOf t ≡ i → HeaderLaw t
 
 abbrev pub PointerLaw : View → ℕ → Type 0
 PointerLaw v i = Shape v i (v .table i)

@@ -5,10 +5,10 @@ use Rattle.allocation.proofs.growth.add_some.Statement.{statement}
 use Rattle.allocation.proofs.growth.add_some.Tie as tie
 
 abbrev Inv-loop : tie.InvT-loop
-Inv-loop b₀ p f t n write cursor₀ last₀ i₀ b cursor last i = Adding write p (f .0) t n (record { books = b₀; cursor = cursor₀ }) (record { books = b; cursor = cursor }) last i
+Inv-loop b₀ p f t n write cursor₀ from₀ i₀ b cursor from i = Adding write p (f .0) t n (record { books = b₀; cursor = cursor₀ }) (record { books = b; cursor = cursor }) from i
 
 abbrev μ-loop : tie.MeasureT-loop
-μ-loop b₀ p f t n write cursor₀ last₀ i₀ b cursor last i = n - i
+μ-loop b₀ p f t n write cursor₀ from₀ i₀ b cursor from i = n - i
 
 pub add-some-spec : {M : Type 1} → statement M
 add-some-spec =

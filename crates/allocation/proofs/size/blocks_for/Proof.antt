@@ -1,4 +1,4 @@
-use Rattle.allocation.proofs.SizeLaws.{type-typed, lacks-none, lacks-some, lacks-few}
+use Rattle.allocation.proofs.SizeLaws.{type-blocks, lacks-none, lacks-some, lacks-few}
 use borrow.Author.Needs.{needs}
 use Rattle.allocation.proofs.size.blocks_for.Statement.{statement}
 use Rattle.allocation.proofs.size.blocks_for.Tie as tie
@@ -11,7 +11,7 @@ blocks-for-spec =
     (λ c. search needs)
     (λ c. search lacks-none)
     (λ c κs. search needs)
-    (λ c κs. search type-typed)
+    (λ c κs. search type-blocks)
     (λ c. search needs)
     (λ c. search needs)
     (λ c. search needs)

@@ -1,5 +1,4 @@
-use Rattle.examination.proofs.ZonePartLaws.{lone-untyped, part-lone}
-use Rattle.examination.proofs.ZoneLaws.{typed-now}
+use Rattle.examination.proofs.ZonePartLaws.{data-now, lone-untyped, part-lone}
 use borrow.Author.Needs.{needs}
 use Rattle.examination.proofs.pointers.lone_valid.Statement.{statement}
 use Rattle.examination.proofs.pointers.lone_valid.Tie as tie
@@ -12,6 +11,6 @@ lone-valid-spec =
     (λ c κs. search needs)
     (λ c κs. search needs)
     (λ c. search lone-untyped)
-    (λ c κs. search typed-now)
+    (λ c κs. search data-now)
     (λ c κs. search needs)
     (λ c. search part-lone))

@@ -1,5 +1,4 @@
-use Rattle.examination.proofs.ZonePartLaws.{part-untyped, part-says}
-use Rattle.examination.proofs.ZoneLaws.{typed-now}
+use Rattle.examination.proofs.ZonePartLaws.{data-now, part-untyped, part-says}
 use borrow.Author.Needs.{needs}
 use Rattle.examination.proofs.pointers.part_valid.Statement.{statement}
 use Rattle.examination.proofs.pointers.part_valid.Tie as tie
@@ -12,6 +11,6 @@ part-valid-spec =
     (λ c κs. search needs)
     (λ c. search part-untyped)
     (λ c κs. search needs)
-    (λ c κs. search typed-now)
+    (λ c κs. search data-now)
     (λ c κs. search needs)
     (λ c. search part-says))

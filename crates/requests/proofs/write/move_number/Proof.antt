@@ -1,4 +1,4 @@
-use Rattle.requests.proofs.NamedLaws.{body-parent}
+use Rattle.requests.proofs.NamedLaws.{usable-parent}
 use Rattle.requests.proofs.WriteLaws.{move-unusable, move-past, move-lack}
 use borrow.Author.Needs.{needs}
 use Rattle.requests.proofs.write.move_number.Statement.{statement}
@@ -10,8 +10,8 @@ move-number-spec =
     (tie.spec
     (λ c κs. search needs)
     (λ c. search move-unusable)
-    (λ c κs. search body-parent)
+    (λ c κs. search usable-parent)
     (λ c. search move-past)
-    (λ c κs. (search needs, (search body-parent, search needs)))
-    (λ c κs. search body-parent)
+    (λ c κs. (search needs, (search usable-parent, search needs)))
+    (λ c κs. search usable-parent)
     (λ c. search move-lack))

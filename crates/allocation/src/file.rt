@@ -6,6 +6,8 @@ use crate::table::count_file;
 use crate::table::put_change;
 use crate::table::put_new_parent;
 use crate::tail::no_pointer;
+use tables::index::DIRECTORY;
+use tables::index::SYSTEM;
 use tables::kinds::Index;
 use tables::places::Places;
 ghost use mathlib.Core.Path.{_≡_};
@@ -43,7 +45,7 @@ fn start_file(
     ensures { λ r. ⌜ (r .0 ≡ firstFreeOf (now (b .entry))) × (record { books = now (b .exit); cursor = record { tail = noPointer; table = r } } ≡ started p (now (b .entry)) (record { name = now (name .entry); date = now (date .entry); length = long; attribute = attribute })) ⌝ }
 {
     let f = put_new_parent(b, p, name, date, long, attribute);
-    count_file(b, attribute / 64 % 2, attribute / 32 % 2, date);
+    count_file(b, attribute / SYSTEM % 2, attribute / DIRECTORY % 2, date);
     f
 }
 

@@ -1,6 +1,7 @@
 // Where a file's pointers end in the books.
 use crate::growth::Cursor;
 use crate::tail::Tail;
+use tables::index::POINTER;
 use tables::index::base;
 use tables::index::link;
 use tables::index::pointer_at;
@@ -46,7 +47,7 @@ fn used_pointers(i: Index, t: &[u8]) -> usize
     let at = base(i, t);
     let mut j: usize = 0;
     while j < n {
-        let q = pointer_at(t, at + 6 * j);
+        let q = pointer_at(t, at + POINTER * j);
         if q.start.0 as u64 + q.count as u64 == 0 {
             return j;
         }

@@ -3,6 +3,7 @@ use crate::growth::Cursor;
 use crate::growth::add_all;
 use crate::tail::Tail;
 use field::parts::copy;
+use tables::kinds::ENTRY_LEN;
 use tables::kinds::Index;
 use tables::kinds::ZONE_BITS;
 use tables::places::Places;
@@ -35,7 +36,7 @@ fn copy_tables(s: &mut [u8], b: &[u8], p: Places)
 {
     let zones = p.zones as usize;
     let zonetable = p.zonetable;
-    let zoneend = zonetable + 6 * zones;
+    let zoneend = zonetable + ENTRY_LEN * zones;
     let sectortable = p.sectortable;
     let sectorend = sectortable + ZONE_BITS * zones;
     copy(s, 2048, &b[zonetable..zoneend]);

@@ -95,7 +95,7 @@ module _ (v : View) (seen : List ℕ) (i : ℕ) (e : Entry) (c : Bool) (is : e �
 
 -- ---- chains
 
--- the walk along p's children has come to cur, behind prev; the marks were old when it began
+-- the walk along p's children has come to cur, after prev; the marks were old when it began
 pub record Going (v : View) (p : ℕ) (old seen : List ℕ) (prev cur : ℕ) : Type 0 where
   pub steps : ℕ
   pub behind : walk (next v) p steps ≡ prev

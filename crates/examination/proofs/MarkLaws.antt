@@ -131,7 +131,7 @@ module _ (v : View) (i : ℕ) (shape : Shape v i (v .table i)) where
   fit : v .zones ≤ 256 → (j : ℕ) → j < slotsOf i (v .table i) → startOf i (v .table i) j + countOf i (v .table i) j ≤ 262144
   fit z j l = elim (decLt 0 (startOf i (v .table i) j + countOf i (v .table i) j)) [ yes u ↦ omega (arith, shape .used j l u .high) | no u ↦ omega arith ]
 
-  -- behind an unused pointer all are unused
+  -- after an unused pointer all are unused
   unused : (j : ℕ) → countOf i (v .table i) j ≡ 0 → (k : ℕ) → j + k < slotsOf i (v .table i) → Used i (v .table i) (j + k) → ⊥
   unused j z zero l u = omega (arith, shape .used (j + 0) l u .some, ap (countOf i (v .table i)) (let e : j + 0 ≡ j = omega arith in e))
   unused j z (suc k) l u =

@@ -150,7 +150,7 @@ module _ (m : List ℕ) (at w x : ℕ) (p : InWord at w) (here : x ≡ getD m (a
           ]
         ]
 
-  -- what the code knows: the bits from the piece on, and those behind it
+  -- what the code knows: the bits from the piece on, and those after it
   module _ (on rest : ℕ) (eo : on ≡ 2 ^ (64 - at % 64) - 1) (er : rest ≡ 2 ^ (64 - (at % 64 + w)) - 1) where
     behind : rest + 1 ≡ 2 ^ (64 - at % 64 - w)
     behind =

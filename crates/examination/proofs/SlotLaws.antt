@@ -83,7 +83,7 @@ module _ (v : View) (t : List ℕ) (at : ℕ) where
   pub slots-all : (n j : ℕ) → Leading v t at j → n ≤ j → SlotsLaw v t at n
   slots-all n j lead h = record { first = λ k l f. lead k (omega arith) .used; used = λ k l f. lead k (omega arith) .run }
 
-  -- behind an unused pointer all bytes are null
+  -- after an unused pointer all bytes are null
   module _ (n j : ℕ) (l : j < n) (un : UsedAt t (at + 6 * j) → ⊥) where
     rest-unused : AllBytes t (at + 6 * j) (6 * (n - j)) 0 → (k : ℕ) → k < n → j ≤ k → UsedAt t (at + 6 * k) → ⊥
     rest-unused all k lk h =

@@ -44,7 +44,7 @@ zone-edge : (size : ℕ) → Block size → 1024 % size ≡ 0
 zone-edge size b = omega (arith, div-add-mod' 1024 size, b .whole)
 
 module _ (a c from size : ℕ) (b : Block size) (m : Meets a c from) where
-  -- where a block does not end behind the run without beginning behind it, and the run begins at an edge, its part is whole blocks
+  -- where a block does not end after the run without beginning after it, and the run begins at an edge, its part is whole blocks
   whole-by : (a - from) % size ≡ 0 → ((k : ℕ) → k < 1024 / size → (j : ℕ) → j < size → k * size < a + c - from → k * size + j < a + c - from) → Whole (cov a c) from size
   whole-by e tail k l j lj =
       elim (decLt (k * size) (a - from)) [

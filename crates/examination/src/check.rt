@@ -10,6 +10,7 @@ use crate::pointers::rule6;
 use crate::tails::tails_null;
 use crate::zones::rule2;
 use crate::zones::rule3;
+use tables::kinds::ENTRY_LEN;
 use tables::kinds::ROUND_UP_LEN;
 use tables::kinds::SECTOR;
 use tables::kinds::SECTOR_LEN;
@@ -120,7 +121,7 @@ pub fn stands(p: Places, len: usize) -> bool
     if zonetable > len {
         return false;
     }
-    if zonetable + SECTOR_LEN * ((6 * zones + ROUND_UP_LEN) / SECTOR_LEN) > sectortable {
+    if zonetable + SECTOR_LEN * ((ENTRY_LEN * zones + ROUND_UP_LEN) / SECTOR_LEN) > sectortable {
         return false;
     }
     if sectortable + SECTOR_LEN * ((zones + 7) / 8) > indextable {

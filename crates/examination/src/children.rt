@@ -29,7 +29,7 @@ fn is_full(b: &[u8], p: Places, i: Index) -> bool
     let base = index::base(i, t);
     let mut j: usize = 0;
     while j < slots {
-        if unused(index::pointer_at(t, base + 6 * j)) {
+        if unused(index::pointer_at(t, base + index::POINTER * j)) {
             return false;
         }
         j += 1;
@@ -46,7 +46,7 @@ fn some_used(i: Index, t: &[u8]) -> bool
     let base = index::base(i, t);
     let mut j: usize = 0;
     while j < slots {
-        if !unused(index::pointer_at(t, base + 6 * j)) {
+        if !unused(index::pointer_at(t, base + index::POINTER * j)) {
             return true;
         }
         j += 1;

@@ -1,5 +1,6 @@
 // R9: sector 1's counts against what the index tables are, in one pass over them.
 use tables::entry::decode;
+use tables::index;
 use tables::kind::is_free;
 use tables::kind::is_parent;
 use tables::kinds::Index;
@@ -57,8 +58,8 @@ fn count_table(c: Counts, b: &[u8], p: Places, i: Index) -> Counts
         active: c.active + 1,
         deleted: c.deleted,
         free: c.free,
-        system: c.system + attribute / 64 % 2,
-        directory: c.directory + attribute / 32 % 2,
+        system: c.system + attribute / index::SYSTEM % 2,
+        directory: c.directory + attribute / index::DIRECTORY % 2,
     }
 }
 

@@ -50,7 +50,7 @@ fn weights_valid(a: u32) -> bool
     if a > 127 {
         return false;
     }
-    if a / 32 % 2 + a / 64 % 2 > 1 {
+    if a / index::DIRECTORY % 2 + a / index::SYSTEM % 2 > 1 {
         return false;
     }
     true

@@ -17,6 +17,9 @@ ghost use Rattle.tables.specs.Views.{viewOf, Free};
 ghost use Rattle.examination.specs.Met.{FreeMet};
 ghost use Rattle.tables.specs.Rules.R4.{Own, FreeChain};
 
+// The zeros of a free table, from its first word to its link.
+const ZEROS: usize = index::LINK - index::AFTER_WORD;
+
 // Does table i begin with 0 (then zeros follow), i or -i?
 fn own(b: &[u8], p: Places, i: Index) -> bool
     requires { ⌜ Layout p (length (now b)) ⌝ }
@@ -26,7 +29,7 @@ fn own(b: &[u8], p: Places, i: Index) -> bool
     let t = index::table(b, p, i);
     let word = index::first_word(t);
     if word == 0 {
-        return bytes_all(t, 4, 120, 0);
+        return bytes_all(t, index::AFTER_WORD, ZEROS, 0);
     }
     if word == i.0 {
         return true;

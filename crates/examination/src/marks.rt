@@ -97,7 +97,7 @@ fn mark_pointers(i: Index, t: &[u8], m: &mut [u64]) -> bool
     let base = index::base(i, t);
     let mut j: usize = 0;
     while j < slots {
-        let q = index::pointer_at(t, base + 6 * j);
+        let q = index::pointer_at(t, base + index::POINTER * j);
         if q.count == 0 {
             return true;
         }

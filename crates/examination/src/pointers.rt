@@ -171,9 +171,9 @@ fn slots_valid(b: &[u8], p: Places, t: &[u8], at: usize, n: usize) -> bool
 {
     let mut j: usize = 0;
     while j < n {
-        let q = index::pointer_at(t, at + 6 * j);
+        let q = index::pointer_at(t, at + index::POINTER * j);
         if unused(q) {
-            return bytes_all(t, at + 6 * j, 6 * (n - j), 0);
+            return bytes_all(t, at + index::POINTER * j, index::POINTER * (n - j), 0);
         }
         if !run_valid(b, p, q) {
             return false;
@@ -188,10 +188,10 @@ fn heads_valid(t: &[u8]) -> bool
     requires { ⌜ length (now t) ≡ 128 ⌝ }
     ensures { λ r. ⌜ Says r (Heads (now (t .entry))) ⌝ }
 {
-    if unused(index::pointer_at(t, 64)) {
+    if unused(index::pointer_at(t, index::PARENT_POINTERS)) {
         return false;
     }
-    bytes_all(t, 58, 6, 0)
+    bytes_all(t, index::HEADER, index::POINTER, 0)
 }
 
 // Are the pointers of index table i lawful?

@@ -1,5 +1,6 @@
 // R1's tails: what the zone and the sector table leave of their last sectors is null.
 use field::parts::bytes_all;
+use tables::kinds::ENTRY_LEN;
 use tables::kinds::ROUND_UP_LEN;
 use tables::kinds::SECTOR_LEN;
 use tables::kinds::ZONE_BITS;
@@ -15,8 +16,8 @@ pub fn tails_null(b: &[u8], p: Places) -> bool
     ensures { λ r. ⌜ Says r (Tails p (now (b .entry))) ⌝ }
 {
     let z = p.zones as usize;
-    let entries = SECTOR_LEN * ((6 * z + ROUND_UP_LEN) / SECTOR_LEN);
-    if !bytes_all(b, p.zonetable + 6 * z, entries - 6 * z, 0) {
+    let entries = SECTOR_LEN * ((ENTRY_LEN * z + ROUND_UP_LEN) / SECTOR_LEN);
+    if !bytes_all(b, p.zonetable + ENTRY_LEN * z, entries - ENTRY_LEN * z, 0) {
         return false;
     }
     let bits = SECTOR_LEN * ((z + 7) / 8);

@@ -55,7 +55,7 @@ fn table_type(b: &[u8], p: Places, i: Index, t: &[u8], ty: u32) -> bool
     let base = index::base(i, t);
     let mut j: usize = 0;
     while j < slots {
-        let q = index::pointer_at(t, base + 6 * j);
+        let q = index::pointer_at(t, base + index::POINTER * j);
         if !run_type(b, p, q, ty) {
             return false;
         }

@@ -116,7 +116,7 @@ same-four : (b : List ℕ) (o v : ℕ) → AllBytes b o 4 v → u32At b o ≡ 16
 unfolding u32At
 same-four b o v h = omega (arith, rw (add-zero o) at (h 0 (omega arith)), h 1 (omega arith), h 2 (omega arith), h 3 (omega arith))
 
--- bytes behind bytes
+-- bytes after bytes
 pub all-behind : (b : List ℕ) (at i w v : ℕ) → AllBytes b at i v → AllBytes b (at + i) w v → AllBytes b at (i + w) v
 all-behind b at i w v h g k l =
     elim (decLt k i) [

@@ -1,6 +1,8 @@
 // A file given back: its sectors and its tables are free.
 use crate::zones::recount_zones;
 use allocation::last::last_table;
+use tables::index::LINK;
+use tables::index::POINTER;
 use tables::index::base;
 use tables::index::erase;
 use tables::index::link;
@@ -34,7 +36,7 @@ fn clear_runs(b: &mut [u8], p: Places, i: Index)
     let at = base(i, table(b, p, i));
     let mut j: usize = 0;
     while j < n {
-        let q = pointer_at(table(b, p, i), at + 6 * j);
+        let q = pointer_at(table(b, p, i), at + POINTER * j);
         put_sectors(b, p, q.start, q.count, 0);
         j += 1;
     }
@@ -48,7 +50,7 @@ fn free_table(b: &mut [u8], p: Places, i: Index)
     ensures { λ _. ⌜ now (b .exit) ≡ freeTable p (now (b .entry)) (i .0) ⌝ }
 {
     clear_runs(b, p, i);
-    erase(b, p, i, 124);
+    erase(b, p, i, LINK);
 }
 
 // Frees the tables of file f, and counts them.

@@ -1,4 +1,5 @@
 // A file's sectors in order: the next one, and the k-th, which is sought pointer by pointer.
+use tables::index::POINTER;
 use tables::index::Pointer;
 use tables::index::base;
 use tables::index::link;
@@ -32,7 +33,7 @@ fn pointer_of(b: &[u8], p: Places, c: Spot) -> Pointer
     ensures { λ r. ⌜ (r .start .0 ≡ spotStart (viewOf p (now (b .entry))) c) × (r .count ≡ spotCount (viewOf p (now (b .entry))) c) × (r .count < 65536) ⌝ }
 {
     let t = table(b, p, c.table);
-    pointer_at(t, base(c.table, t) + 6 * c.slot)
+    pointer_at(t, base(c.table, t) + POINTER * c.slot)
 }
 
 // Is the next pointer of the table used?
@@ -46,7 +47,7 @@ fn more_at(b: &[u8], p: Places, c: Spot) -> bool
     if j >= slots(c.table, t) {
         return false;
     }
-    let q = pointer_at(t, base(c.table, t) + 6 * j);
+    let q = pointer_at(t, base(c.table, t) + POINTER * j);
     q.start.0 as u64 + q.count as u64 > 0
 }
 

@@ -1,4 +1,4 @@
--- What the functions behind `name_matches` mean: the rest of a name, whether a byte of the pattern stands for one of the name, and the match with three answers.
+-- What the functions that `name_matches` calls mean: the rest of a name, whether a byte of the pattern stands for one of the name, and the match with three answers.
 -- That its answers tell what `matches` does is proved (PatternLaws: three-tells).
 use mathlib.Core.Path.{_≡_}
 use mathlib.Core.Bool.{Bool, cond, _||_}

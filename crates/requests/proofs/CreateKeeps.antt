@@ -105,7 +105,7 @@ fixed-lawful name (Is n) (Types w) kind date a =
       counts-six w n,
     )
 
--- README's promise 3, "the nine book rules still hold": after create fixed
+-- "the rules still hold" (demand 3): after create fixed
 pub fixed-keeps : (b name : List ℕ) (size : Amount) (types : Chosen) (kind : ℕ) (date : List ℕ) (r : Created) (b' : List ℕ) (p : Places) {extra : ℕ → ℕ}
     → CreatedFixed b name size types kind date r b' → GoodWith extra b p → GoodWith extra b' p
 fixed-keeps b name size types kind date r b' p = creates-keeps b _ _ _ r b' p (fixed-lawful name size types kind date)
@@ -122,7 +122,7 @@ variable-lawful name cell kind date a =
       length-only t 1,
     )
 
--- README's promise 3, "the nine book rules still hold": after create variable
+-- "the rules still hold" (demand 3): after create variable
 pub variable-keeps : (b name : List ℕ) (cell : Amount) (kind : ℕ) (date : List ℕ) (r : Created) (b' : List ℕ) (p : Places) {extra : ℕ → ℕ}
     → CreatedVariable b name cell kind date r b' → GoodWith extra b p → GoodWith extra b' p
 variable-keeps b name cell kind date r b' p = creates-keeps b _ _ _ r b' p (variable-lawful name cell kind date)
@@ -154,7 +154,7 @@ module _ (b : List ℕ) (id long : ℕ) (date : List ℕ) {extra : ℕ → ℕ} 
     | no nl ↦ rw (le-ltb (lengthOf (fileBytes b id)) long (omega arith)) g
   ]
 
--- README's promise 3, "the nine book rules still hold": after grow
+-- "the rules still hold" (demand 3): after grow
 pub grew-keeps : (b : List ℕ) (id : ℕ) (long : Amount) (date : List ℕ) (r : ℕ) (b' : List ℕ) (p : Places) {extra : ℕ → ℕ} → Grew b id long date r b' → GoodWith extra b p → GoodWith extra b' p
 grew-keeps b id long date r b' p h g =
     done-keeps r (grownTo b id (amountValue long) date) b b' p (h .books) (λ z.

@@ -12,7 +12,7 @@ use Rattle.requests.specs.Delete.{Deleted}
 use Rattle.requests.proofs.RequestLaws.{done-keeps}
 use Rattle.requests.proofs.StateLaws.{recover-asks}
 
--- README's promise 3, "the nine book rules still hold": after actual delete
+-- "the rules still hold" (demand 3): after actual delete
 pub deleted-keeps : (b : List ℕ) (id : ℕ) (date : List ℕ) (r : ℕ) (b' : List ℕ) (p : Places) {extra : ℕ → ℕ} → GoodWith extra b p → Deleted b id date r b' → GoodWith extra b' p
 deleted-keeps b id date r b' p g h =
     done-keeps r (released (placesOf b) b id date) b b' p (h .books) (λ z.

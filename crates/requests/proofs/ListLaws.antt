@@ -59,7 +59,7 @@ front-long t e = sym (length-take-le 64 t (omega arith))
 pub front-fits : (t x : List ℕ) (n : ℕ) → length t ≡ 128 → n < length x / 64 → 64 * n + length (take 64 t) ≤ length x
 front-fits t x n e h = omega (arith, front-long t e)
 
--- ---- entries one behind the other
+-- ---- entries one after the other
 
 fronts-more : (v : View) (xs : List ℕ) (i : ℕ) → fronts v (xs ++ (i ∷ [])) ≡ fronts v xs ++ take 64 (v .table i)
 unfolding fronts
@@ -67,7 +67,7 @@ fronts-more v [] i = append-nil (take 64 (v .table i))
 fronts-more v (j ∷ xs) i =
     ap (λ (x : List ℕ). take 64 (v .table j) ++ x) (fronts-more v xs i) ∙ sym (append-assoc (take 64 (v .table j)) (fronts v xs) (take 64 (v .table i)))
 
--- a part laid behind a part
+-- a part laid after a part
 over-at : (xs ys zs : List ℕ) → over (xs ++ zs) (length xs) ys ≡ xs ++ (ys ++ drop (length ys) zs)
 unfolding over
 over-at xs ys zs = ap₂ (λ (x y : List ℕ). x ++ (ys ++ y)) (take-append-seam xs zs) (drop-append-add xs zs (length ys))

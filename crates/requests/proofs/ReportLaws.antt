@@ -60,7 +60,7 @@ pub refused-short : (n : ℕ) → n < 4294967296 → length (refusedLine n) ≤ 
 unfolding refusedLine
 refused-short n h = short _ 9 n (omega arith)
 
--- nulls behind the text
+-- nulls after the text
 drop-nulls : (k n : ℕ) → k ≤ n → _≡_ {A = List ℕ} (drop k (replicate n 0)) (replicate (n - k) 0)
 drop-nulls k n h =
     let e : k + (n - k) ≡ n = omega arith in

@@ -144,7 +144,7 @@ module _ (t m : Bool) (e : t ≡ m) (ids : List ℕ) (n i : ℕ) where
 abbrev pub Stands : List ℕ → ℕ → Type 0
 Stands l i = (k : ℕ) × (k < length l) × (getD l k 0 ≡ i)
 
--- a place behind xs is the last one
+-- a place after xs is the last one
 last-place : (xs : List ℕ) (t : Bool) (m k : ℕ) → k < length (xs ++ cond t (m ∷ []) []) → (k < length xs) ⊎ ((k ≡ length xs) × (t ≡ true) × (getD (xs ++ cond t (m ∷ []) []) k 0 ≡ m))
 last-place xs true m k l = elim (decLt k (length xs)) [
   | yes h ↦ inl h

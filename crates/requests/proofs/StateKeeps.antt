@@ -225,7 +225,7 @@ module _ (p : Places) (b : List ℕ) (f : ℕ) (date : List ℕ) {extra : ℕ �
 
 -- ---- the promises
 
--- README's promise 3, "the nine book rules still hold": after temporary delete
+-- "the rules still hold" (demand 3): after temporary delete
 pub removed-keeps : (b : List ℕ) (id : ℕ) (date : List ℕ) (r : ℕ) (b' : List ℕ) (p : Places) {extra : ℕ → ℕ} → Removed b id date r b' → GoodWith extra b p → GoodWith extra b' p
 removed-keeps b id date r b' p h g =
     done-keeps r (removed (placesOf b) b id date) b b' p (h .books) (λ z.

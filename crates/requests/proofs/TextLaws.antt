@@ -1,4 +1,4 @@
--- Text: digits one by one, how many there are, and pieces written one behind the other.
+-- Text: digits one by one, how many there are, and pieces written one after the other.
 use mathlib.Core.Path.{_≡_, refl, sym, ap, ap₂, _∙_}
 use mathlib.Core.List.{List, [], _∷_, _++_, append-assoc, append-nil}
 use Prim.Native.Nat.{ℕ, zero, suc, _+_, _-_, _*_, _/_, _%_, _^_, _≤_, _<_}
@@ -46,7 +46,7 @@ written-none n d long h = record {
   text = sym (ap (λ (x : List ℕ). digitsOf 9 n ++ x) (drop-of-length-le d {i = 10} (omega arith)) ∙ append-nil (digitsOf 9 n));
 }
 
--- a digit that was stored stands before those behind it
+-- a digit that was stored stands before those after it
 stored : (d : List ℕ) (at v : ℕ) → at < length d → drop at (set d at v) ≡ v ∷ drop (at + 1) d
 stored d at v h =
     drop-cons (set d at v) at 0 (simp length-set h)
@@ -94,7 +94,7 @@ pub decimal-few : (k n : ℕ) → n < 10 ^ (k + 1) → length (decimal n) ≤ k 
 unfolding decimal
 decimal-few k n h = digits-few 9 k n h
 
--- ---- pieces one behind the other
+-- ---- pieces one after the other
 
 pub over-over : (b xs ys : List ℕ) (at : ℕ) → at + (length xs + length ys) ≤ length b → over (over b at xs) (at + length xs) ys ≡ over b at (xs ++ ys)
 unfolding over
@@ -124,7 +124,7 @@ held-room bytes from n at len h l = rw (held bytes from n h) l
 pub put-held : (s s' bytes : List ℕ) (from n at : ℕ) → Holding bytes from n → s' ≡ over s at (take (10 - from) (drop from bytes)) → Put s at (decimal n) s' (at + (10 - from))
 put-held s s' bytes from n at h e = record { bytes = e ∙ ap (over s at) (held bytes from n h); end = ap (λ (k : ℕ). at + k) (sym (held-length bytes from n h)) }
 
--- a piece behind a piece is one piece
+-- a piece after a piece is one piece
 pub put-then : (b b' b'' : List ℕ) (at m r : ℕ) (xs ys : List ℕ) → at + (length xs + length ys) ≤ length b → Put b at xs b' m → Put b' m ys b'' r → Put b at (xs ++ ys) b'' r
 put-then b b' b'' at m r xs ys h p q = record {
   bytes = q .bytes ∙ ap₂ (λ (x : List ℕ) (k : ℕ). over x k ys) (p .bytes) (p .end) ∙ over-over b xs ys at h;
@@ -159,7 +159,7 @@ rest-room s s' at m x y h p = omega (arith, length-append x y, put-length s s' a
 pub put-next : (b b' b'' : List ℕ) (at m r : ℕ) (xs ys : List ℕ) → at + length (xs ++ ys) ≤ length b → Put b at xs b' m → Put b' m ys b'' r → Put b at (xs ++ ys) b'' r
 put-next b b' b'' at m r xs ys h = put-then b b' b'' at m r xs ys (omega (arith, length-append xs ys))
 
--- pieces a, b, c, d one behind the other: room for each, and all of them
+-- pieces a, b, c, d one after the other: room for each, and all of them
 module _ (s : List ℕ) (at : ℕ) (a b c d : List ℕ) (h : at + length (a ++ (b ++ (c ++ d))) ≤ length s) where
   pub first-room : at + length a ≤ length s
   first-room = head-room at (length s) a (b ++ (c ++ d)) h

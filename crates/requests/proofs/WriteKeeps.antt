@@ -174,7 +174,7 @@ module _ (b body : List ℕ) (id : ℕ) (position long : Amount) (x : Bool) (inp
       let asks = wrote-asks b body id position long (length input) date 0 h refl at' (amountValue long) n' refl refl refl c refl (placesOf c) refl ne in
       length-filled (placesOf c) c (asks .0) (asks .1 .0) id (at' / 1024) (n' / 1024) x input body (asks .1 .1)
 
-  -- README's promise 3, "the nine book rules still hold": after write; and the body is as long as it was
+  -- "the rules still hold" (demand 3): after write; and the body is as long as it was
   pub wrote-keeps : (r : Answer) (b' body' : List ℕ) (p : Places) {extra : ℕ → ℕ} → GoodWith extra b p → Wrote b body id position long x input date r b' body' → GoodWith extra b' p × (length body' ≡ length body)
   wrote-keeps r b' body' p {extra = extra} g h = go (numberOf r) (h .number) (h .books) (h .body'')
     where

@@ -8,6 +8,7 @@ use crate::named::state_number;
 use crate::named::unprotected;
 use crate::variable::variable_size;
 use tables::date::date_valid;
+use tables::index::WRITE_PROTECTED;
 use tables::kinds::Index;
 use tables::places::Places;
 use tables::places::read_places;
@@ -37,7 +38,7 @@ fn kind_number(b: &[u8], p: Places, f: Index) -> u32
     requires { ⌜ Parent (viewOf p (now b)) (f .0) ⌝ }
     ensures { λ r. ⌜ Gate (kindTests (now (b .entry)) (f .0)) r ⌝ }
 {
-    if !unprotected(b, p, f, 4) {
+    if !unprotected(b, p, f, WRITE_PROTECTED) {
         return 10;
     }
     if !variable_size(b, p, f) {

@@ -18,6 +18,9 @@ ghost use Rattle.tables.specs.Views.{viewOf};
 ghost use Rattle.requests.specs.Active.{passing};
 ghost use Rattle.requests.specs.Listing.{isListed, fronts, Listed};
 
+// The bytes of an entry.
+const ENTRY: usize = 64;
+
 // Is table i an active parent from the given id up?
 fn is_listed(b: &[u8], p: Places, from: u32, i: Index) -> bool
     requires { ⌜ Layout p (length (now b)) ⌝ }
@@ -38,7 +41,7 @@ fn put_front(b: &[u8], p: Places, i: Index, entries: &mut [u8], n: usize)
     ensures { λ _. ⌜ now (entries .exit) ≡ over (now (entries .entry)) (64 * n) (take 64 (viewOf p (now (b .entry)) .table (i .0))) ⌝ }
 {
     let t = table(b, p, i);
-    copy(entries, 64 * n, &t[..64]);
+    copy(entries, ENTRY * n, &t[..ENTRY]);
 }
 
 // Table i as the n-th entry where it is listed and fits whole; how many there are then.
@@ -47,7 +50,7 @@ fn add_front(b: &[u8], p: Places, from: u32, i: Index, entries: &mut [u8], n: us
     requires { ⌜ (1 ≤ i .0) × (i .0 ≤ p .indexes) ⌝ }
     ensures { λ r. ⌜ (r ≡ cond (ltb n (length (now (entries .entry)) / 64) && isListed (viewOf p (now (b .entry))) from (i .0)) (n + 1) n) × (now (entries .exit) ≡ cond (ltb n (length (now (entries .entry)) / 64) && isListed (viewOf p (now (b .entry))) from (i .0)) (over (now (entries .entry)) (64 * n) (take 64 (viewOf p (now (b .entry)) .table (i .0)))) (now (entries .entry))) ⌝ }
 {
-    if n >= entries.len() / 64 {
+    if n >= entries.len() / ENTRY {
         return n;
     }
     if !is_listed(b, p, from, i) {

@@ -9,6 +9,7 @@ use crate::moving::move_allowed;
 use crate::moving::whole_sectors;
 use crate::named::usable_number;
 use files::sectors::read_sectors;
+use tables::index::READ_PROTECTED;
 use tables::kinds::Index;
 use tables::kinds::SECTOR;
 use tables::places::Places;
@@ -32,7 +33,7 @@ fn read_number(b: &[u8], body: &[u8], id: u32, position: Amount, long: Amount, r
         return 15;
     }
     let p = read_places(b);
-    let m = usable_number(b, p, id, 8);
+    let m = usable_number(b, p, id, READ_PROTECTED);
     if m != 0 {
         return m;
     }

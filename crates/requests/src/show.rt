@@ -5,6 +5,7 @@ use crate::named::usable_number;
 use crate::sector::kth_sector;
 use allocation::size::file_sectors;
 use files::sectors::body_place;
+use tables::index::READ_PROTECTED;
 use tables::kinds::Index;
 use tables::kinds::SECTOR_LEN;
 use tables::places::read_places;
@@ -30,7 +31,7 @@ pub fn show_number(b: &[u8], body: &[u8], id: u32, k: u32) -> u32
         return 15;
     }
     let p = read_places(b);
-    let m = usable_number(b, p, id, 8);
+    let m = usable_number(b, p, id, READ_PROTECTED);
     if m != 0 {
         return m;
     }

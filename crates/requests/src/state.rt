@@ -1,4 +1,6 @@
 // A file's attribute and sector 1's counts, written: what temporary delete, recover and set protection do.
+use tables::index::DIRECTORY;
+use tables::index::SYSTEM;
 use tables::index::attribute;
 use tables::index::put_attribute;
 use tables::index::put_change_date;
@@ -57,8 +59,8 @@ pub fn remove(b: &mut [u8], p: Places, f: Index, date: &[u8])
     let a = attribute(table(b, p, f));
     let active = sector1::active_files(b) - 1;
     let deleted = sector1::deleted_files(b) + 1;
-    let system = sector1::system_files(b) - a / 64 % 2;
-    let directory = sector1::directory_files(b) - a / 32 % 2;
+    let system = sector1::system_files(b) - a / SYSTEM % 2;
+    let directory = sector1::directory_files(b) - a / DIRECTORY % 2;
     put_counts(b, active, deleted, system, directory);
     put_state(b, p, f, a + 1, date);
 }
@@ -74,8 +76,8 @@ pub fn restore(b: &mut [u8], p: Places, f: Index, date: &[u8])
     let a = attribute(table(b, p, f));
     let active = sector1::active_files(b) + 1;
     let deleted = sector1::deleted_files(b) - 1;
-    let system = sector1::system_files(b) + a / 64 % 2;
-    let directory = sector1::directory_files(b) + a / 32 % 2;
+    let system = sector1::system_files(b) + a / SYSTEM % 2;
+    let directory = sector1::directory_files(b) + a / DIRECTORY % 2;
     put_counts(b, active, deleted, system, directory);
     put_state(b, p, f, a - 1, date);
 }

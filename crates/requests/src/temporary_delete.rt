@@ -3,6 +3,7 @@ use crate::argument::argument_number;
 use crate::named::usable_number;
 use crate::state::remove;
 use tables::date::date_valid;
+use tables::index::WRITE_PROTECTED;
 use tables::kinds::Index;
 use tables::places::read_places;
 ghost use Rattle.tables.specs.Gates.{Gate};
@@ -15,7 +16,7 @@ fn remove_number(b: &[u8], id: u32, date: &[u8]) -> u32
     if n != 0 {
         return n;
     }
-    usable_number(b, read_places(b), id, 4)
+    usable_number(b, read_places(b), id, WRITE_PROTECTED)
 }
 
 pub fn temporary_delete(b: &mut [u8], id: u32, date: &[u8]) -> u32

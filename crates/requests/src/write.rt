@@ -14,6 +14,8 @@ use crate::state::put_state;
 use crate::variable::variable_size;
 use files::sectors::write_sectors;
 use tables::date::date_valid;
+use tables::index::WRITE_PROTECTED;
+use tables::index::WRITING;
 use tables::index::attribute;
 use tables::index::table;
 use tables::kinds::Index;
@@ -78,7 +80,7 @@ fn move_number(b: &[u8], p: Places, id: u32, at: u32, n: u32) -> u32
     requires { ⌜ (at ≤ 2147483647) × (n ≤ 2147483647) ⌝ }
     ensures { λ r. ⌜ Gate (moveTests (now (b .entry)) id at n) r ⌝ }
 {
-    let m = usable_number(b, p, id, 4);
+    let m = usable_number(b, p, id, WRITE_PROTECTED);
     if m != 0 {
         return m;
     }
@@ -125,7 +127,7 @@ fn settle(b: &mut [u8], f: Index, date: &[u8])
 {
     let p = read_places(b);
     let a = attribute(table(b, p, f));
-    put_state(b, p, f, a - a / 2 % 2 * 2, date);
+    put_state(b, p, f, a - a / WRITING % 2 * WRITING, date);
 }
 
 // The books once n bytes, some at least, are written at this position.

@@ -161,7 +161,7 @@ module _ (len z n : ℕ) (l : Label) (long : 5120 ≤ len) (f : Formattable len 
   unfolding counted
   status = status-is started n (l .date) (omega (arith, len₃)) (w .date .long)
 
-  -- bytes behind the fields that are written in sectors 0 and 1 are zero, and so are the counts
+  -- bytes after the fields that are written in sectors 0 and 1 are zero, and so are the counts
   k₀₃ : Kept blank started 0 152
   k₀₃ = kept-trans (kept-trans (kept-wider k₁ (omega arith) (omega arith)) k₂) (kept-wider k₃ (omega arith) (omega arith))
 

@@ -192,7 +192,7 @@ module _ (b : List ℕ) (n : ℕ) (d : List ℕ) (room : 2048 ≤ length b) (six
 
 -- ---- zone table and sector table
 
--- the zone table and the sector table stand one behind the other within len bytes
+-- the zone table and the sector table stand one after the other within len bytes
 pub record Tables (p : Places) (len : ℕ) : Type 0 where
   pub least : 3 ≤ p .zones
   pub sector : p .zonetable + 6 * p .zones ≤ p .sectortable

@@ -33,7 +33,7 @@ pub gate-end : Gate [] 0
 unfolding Gate
 gate-end = refl
 
--- tests behind others: where a number applied, and where none did
+-- tests after others: where a number applied, and where none did
 pub gate-stop : (ts us : List Test) (r : ℕ) → Gate ts r → r ≢ 0 → Gate (ts ++ us) r
 unfolding Gate
 gate-stop [] us r h some = absurd (some h)
@@ -46,7 +46,7 @@ gate-skip [] us r s h e g = g
 gate-skip (t ∷ ts) us r s (inl h) e g = inl (h .0, gate-skip ts us r s (h .1) e g)
 gate-skip (t ∷ ts) us r s (inr h) e g = absurd (h .2 e)
 
--- and the tests behind others are passed too where nothing applied at all
+-- and the tests after others are passed too where nothing applied at all
 pub gate-rest : (ts us : List Test) → Gate (ts ++ us) 0 → Gate us 0
 unfolding Gate
 gate-rest [] us g = g

@@ -15,7 +15,7 @@ pub record ZoneType (t : ℕ) : Type 0 where
 unfoldable pub isZoneType : ℕ → Bool
 isZoneType t = leb 3 t && leb t 8
 
--- a type of the zones in which files lie, C to H: what runs, counts and room ask
+-- a type of the zones in which files lie, "C to H": what R6 asks of a run ("lies in zones of type 3-8"), and what counts and room ask
 pub record DataType (t : ℕ) : Type 0 where
   pub low : 3 ≤ t
   pub high : t ≤ 8

@@ -31,7 +31,7 @@ pub struct Entry {
 fn size_of(attribute: u32) -> Size
     ensures { λ r. ⌜ r ≡ sizeOf attribute ⌝ }
 {
-    if attribute / 16 % 2 == 1 {
+    if attribute / index::VARIABLE % 2 == 1 {
         return Size::Variable;
     }
     Size::Fixed

@@ -23,7 +23,7 @@ pub fn sectors_of(i: Index, t: &[u8]) -> u32
     let mut sum: u32 = 0;
     let mut j: usize = 0;
     while j < slots {
-        sum += index::pointer_at(t, base + 6 * j).count;
+        sum += index::pointer_at(t, base + index::POINTER * j).count;
         j += 1;
     }
     sum

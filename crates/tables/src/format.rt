@@ -1,6 +1,8 @@
 // Format: empty books for a volume of given sizes and label. One function a part of the definition `formatted`.
 use crate::fresh::write_sector0;
 use crate::fresh::write_status;
+use crate::index::LINK;
+use crate::kinds::ENTRY_LEN;
 use crate::kinds::ROUND_UP_LEN;
 use crate::kinds::SECTOR_LEN;
 use crate::kinds::TABLE_LEN;
@@ -21,7 +23,7 @@ pub fn fresh_places(zones: u32, indexes: u32) -> Places
     requires { ⌜ zones ≤ 256 ⌝ }
     ensures { λ r. ⌜ r ≡ freshPlaces zones indexes ⌝ }
 {
-    let zonebytes = SECTOR_LEN * ((6 * (zones as usize) + ROUND_UP_LEN) / SECTOR_LEN);
+    let zonebytes = SECTOR_LEN * ((ENTRY_LEN * (zones as usize) + ROUND_UP_LEN) / SECTOR_LEN);
     let sectorbytes = SECTOR_LEN * ((zones as usize + 7) / 8);
     Places {
         zones: zones,
@@ -64,7 +66,7 @@ fn write_links(b: &mut [u8], p: Places)
     let last = p.indexes - 1;
     let mut k: u32 = 0;
     while k < last {
-        put_u32(b, p.indextable + TABLE_LEN * (k as usize) + 124, k + 2);
+        put_u32(b, p.indextable + TABLE_LEN * (k as usize) + LINK, k + 2);
         k += 1;
     }
 }

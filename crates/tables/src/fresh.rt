@@ -1,4 +1,5 @@
 // Format's first step: sectors 0 and 1 of fresh books, what the volume is and that it is empty.
+use crate::kinds::ENTRY;
 use crate::kinds::Index;
 use crate::kinds::ROUND_UP;
 use crate::kinds::SECTOR;
@@ -74,7 +75,7 @@ fn write_starts(b: &mut [u8], zones: u32)
     requires { ⌜ zones ≤ 256 ⌝ }
     ensures { λ _. ⌜ now (b .exit) ≡ putStarts (now (b .entry)) zones ⌝ }
 {
-    let sectorstart = 2 + (6 * zones + ROUND_UP) / SECTOR;
+    let sectorstart = 2 + (ENTRY * zones + ROUND_UP) / SECTOR;
     let indexstart = sectorstart + (zones + 7) / 8;
     sector0::put_zone_start(b, 2);
     sector0::put_sector_start(b, sectorstart);

@@ -16,6 +16,32 @@ ghost use Rattle.field.specs.Numbers.{u32At};
 ghost use Rattle.tables.specs.Places.{Layout};
 ghost use Rattle.tables.specs.Indexes.{tablePlace, tableAt, erased, wordOf, putWord, parentOf, putParent, nameOf, putName, createdOf, putCreated, changedOf, putChanged, lengthOf, putLength, attributeOf, putAttribute, linkOf, putLink, pointerAt, putPointer, minus, slotsOf, baseOf, pointerPlace, fileOf};
 
+// Where the fields begin that are looked at as bytes elsewhere: what follows the first word, a parent's header pointer and its ten
+// pointers, the link.
+pub const AFTER_WORD: usize = 4;
+
+pub const HEADER: usize = 58;
+
+pub const PARENT_POINTERS: usize = 64;
+
+pub const LINK: usize = 124;
+
+// The bytes of a pointer.
+pub const POINTER: usize = 6;
+
+// Weights of the attribute; weight 1 is what is left of a division by 2.
+pub const WRITING: u32 = 2;
+
+pub const WRITE_PROTECTED: u32 = 4;
+
+pub const READ_PROTECTED: u32 = 8;
+
+pub const VARIABLE: u32 = 16;
+
+pub const DIRECTORY: u32 = 32;
+
+pub const SYSTEM: u32 = 64;
+
 // A run of sectors: the first, and how many.
 pub struct Pointer {
     pub start: Sector,
@@ -248,7 +274,7 @@ pub fn pointer_place(capacity: usize, slot: usize) -> usize
     requires { ⌜ (slot ≤ capacity) × (capacity ≤ 17) ⌝ }
     ensures { λ r. ⌜ (r ≡ pointerPlace capacity slot) × (r ≤ 118) ⌝ }
 {
-    118 - 6 * (capacity - slot)
+    118 - POINTER * (capacity - slot)
 }
 
 // The file that table i is of; 0 if the table is free.

@@ -17,7 +17,11 @@ pub const ROUND_UP: u32 = SECTOR - 1;
 
 pub const ROUND_UP_LEN: usize = SECTOR_LEN - 1;
 
-// The bytes of an index table, likewise.
+// The bytes of a zone entry and of an index table, likewise.
+pub const ENTRY: u32 = 6;
+
+pub const ENTRY_LEN: usize = ENTRY as usize;
+
 pub const TABLE: u32 = 128;
 
 pub const TABLE_LEN: usize = TABLE as usize;

@@ -1,4 +1,5 @@
 // The zone table: an entry of six bytes a zone.
+use crate::kinds::ENTRY_LEN;
 use crate::kinds::Zone;
 use crate::places::Places;
 use field::numbers::get_u16;
@@ -21,7 +22,7 @@ pub fn zone_entry(b: &[u8], p: Places, z: Zone) -> ZoneEntry
     requires { ⌜ (1 ≤ z .0) × (z .0 ≤ p .zones) ⌝ }
     ensures { λ r. ⌜ r ≡ zoneAt p (now (b .entry)) (z .0) ⌝ }
 {
-    let at = p.zonetable + 6 * (z.0 as usize - 1);
+    let at = p.zonetable + ENTRY_LEN * (z.0 as usize - 1);
     ZoneEntry {
         ztype: get_u16(b, at),
         free: get_u16(b, at + 2),
@@ -36,7 +37,7 @@ pub fn put_zone(b: &mut [u8], p: Places, z: Zone, t: u32, f: u32, h: u32)
     requires { ⌜ (t < 65536) × (f < 65536) × (h < 65536) ⌝ }
     ensures { λ _. ⌜ now (b .exit) ≡ putZone p (now (b .entry)) (z .0) t f h ⌝ }
 {
-    let at = p.zonetable + 6 * (z.0 as usize - 1);
+    let at = p.zonetable + ENTRY_LEN * (z.0 as usize - 1);
     put_u16(b, at, t);
     put_u16(b, at + 2, f);
     put_u16(b, at + 4, h);

@@ -1,9 +1,9 @@
 // New index tables off the free chain's head, and the change of a file that grows.
 use tables::index;
 use tables::kinds::Index;
-use tables::kinds::TABLE_LEN;
 use tables::places::Places;
 use tables::sector1;
+use tables::sizes::TABLE_LEN;
 ghost use mathlib.Core.Path.{_≡_};
 ghost use Prim.Native.Nat.{_+_, _≤_, _<_};
 ghost use lib.ListN.{length};

@@ -1,10 +1,10 @@
 // R1's tails: what the zone and the sector table leave of their last sectors is null.
 use field::parts::bytes_all;
-use tables::kinds::ENTRY_LEN;
-use tables::kinds::ROUND_UP_LEN;
-use tables::kinds::SECTOR_LEN;
-use tables::kinds::ZONE_BITS;
 use tables::places::Places;
+use tables::sizes::ENTRY_LEN;
+use tables::sizes::ROUND_UP_LEN;
+use tables::sizes::SECTOR_LEN;
+use tables::sizes::ZONE_BITS;
 ghost use lib.ListN.{length};
 ghost use Rattle.field.specs.Says.{Says};
 ghost use Rattle.tables.specs.Places.{Layout};

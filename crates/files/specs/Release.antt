@@ -61,12 +61,11 @@ freedFile p b f date =
 
 -- ---- "blocks freed, a zone left empty becomes (0,0,0)"
 
--- how many pointers of file f's tables lie over sector s
+-- how many claims of file f's tables lie over sector s: its pointers
 unfoldable pub gone : View → ℕ → ℕ → ℕ
 gone v f s = tally v (λ i t. onlyIf (eqb (fileOf i t) f) (claimsOf i t s))
 
--- how many blocks of zone z lie under pointers of file f's tables: each lies there whole (R6), so that its first sector tells, and under one
--- pointer (R7)
+-- how many blocks of zone z are claimed by file f's tables: each whole (R6), so that its first sector tells, and once (R7)
 unfoldable pub freedBlocks : View → ℕ → ℕ → ℕ
 unfolding gone
 freedBlocks v f z = sumTo (perZone (v .zone z .ztype)) (λ k. gone v f (firstOf z + k * blockOf (v .zone z .ztype)))

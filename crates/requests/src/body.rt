@@ -1,7 +1,7 @@
 // Requests that take the body: has it its length?
-use tables::kinds::SECTOR_LEN;
-use tables::kinds::ZONE;
 use tables::sector0::zones;
+use tables::sizes::SECTOR_LEN;
+use tables::sizes::ZONE;
 ghost use Rattle.field.specs.Says.{Says};
 ghost use Rattle.tables.specs.Books.{Good};
 ghost use Rattle.tables.specs.Places.{placesOf};

@@ -6,7 +6,7 @@ use crate::make::make_file;
 use crate::make::new_file_valid;
 use allocation::file::only_counts;
 use tables::blocks::block_sectors;
-use tables::kinds::SECTOR;
+use tables::sizes::SECTOR;
 ghost use mathlib.Core.Path.{_≡_};
 ghost use Prim.Native.Nat.{_≤_};
 ghost use Rattle.field.specs.Says.{Says};

@@ -7,8 +7,8 @@ use allocation::size::file_sectors;
 use files::sectors::body_place;
 use tables::index::READ_PROTECTED;
 use tables::kinds::Index;
-use tables::kinds::SECTOR_LEN;
 use tables::places::read_places;
+use tables::sizes::SECTOR_LEN;
 ghost use Rattle.tables.specs.Gates.{Gate};
 ghost use Rattle.requests.specs.Show.{showTests, ShownAt, Shown};
 

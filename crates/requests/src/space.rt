@@ -2,8 +2,8 @@
 use crate::judged::judge;
 use crate::used::used_sectors;
 use examination::check::Checked;
-use tables::kinds::ZONE;
 use tables::places::Places;
+use tables::sizes::ZONE;
 ghost use mathlib.Core.Path.{_≡_};
 ghost use Prim.Native.Nat.{_*_};
 ghost use Rattle.tables.specs.Sector0.{zonesOf};

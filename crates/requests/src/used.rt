@@ -1,7 +1,7 @@
 // How many sectors are in use.
 use field::runs::count_bits;
-use tables::kinds::ZONE;
 use tables::places::Places;
+use tables::sizes::ZONE;
 ghost use mathlib.Core.Path.{_≡_};
 ghost use lib.ListN.{length};
 ghost use Rattle.tables.specs.Places.{Layout};

@@ -1,6 +1,6 @@
 // Counts per zone type: how many blocks of each type a new fixed file takes.
 use crate::blocks::block_sectors;
-use crate::kinds::SECTOR;
+use crate::sizes::SECTOR;
 ghost use mathlib.Core.Path.{_≡_};
 ghost use Prim.Native.Nat.{_*_, _≤_, _<_};
 ghost use Rattle.tables.specs.Blocks.{DataType};

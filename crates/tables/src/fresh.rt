@@ -1,12 +1,12 @@
 // Format's first step: sectors 0 and 1 of fresh books, what the volume is and that it is empty.
-use crate::kinds::ENTRY;
 use crate::kinds::Index;
-use crate::kinds::ROUND_UP;
-use crate::kinds::SECTOR;
-use crate::kinds::TABLE;
-use crate::kinds::ZONE;
 use crate::sector0;
 use crate::sector1;
+use crate::sizes::ENTRY;
+use crate::sizes::ROUND_UP;
+use crate::sizes::SECTOR;
+use crate::sizes::TABLE;
+use crate::sizes::ZONE;
 ghost use mathlib.Core.Path.{_≡_};
 ghost use Prim.Native.Nat.{_≤_};
 ghost use lib.ListN.{length};

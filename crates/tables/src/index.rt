@@ -1,8 +1,8 @@
 // An index table of 128 bytes: a reader and a writer for each of its fields.
 use crate::kinds::Index;
 use crate::kinds::Sector;
-use crate::kinds::TABLE_LEN;
 use crate::places::Places;
+use crate::sizes::TABLE_LEN;
 use field::numbers::get_u16;
 use field::numbers::get_u32;
 use field::numbers::put_u16;

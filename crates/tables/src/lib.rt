@@ -1,4 +1,4 @@
-// The lower part: the volume's tables, read and examined. Knows bytes only through the crate field.
+// The lower part: the volume's tables, read and written. Knows bytes only through the crate field.
 pub mod blocks;
 pub mod counts;
 pub mod date;
@@ -16,4 +16,5 @@ pub mod room;
 pub mod sector;
 pub mod sector0;
 pub mod sector1;
+pub mod sizes;
 pub mod zone;

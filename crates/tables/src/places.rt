@@ -1,7 +1,7 @@
 // Where the tables stand in the books, by value: what everything above reads of sector 0.
-use crate::kinds::SECTOR_LEN;
 use crate::sector0;
 use crate::sector1;
+use crate::sizes::SECTOR_LEN;
 ghost use mathlib.Core.Path.{_≡_};
 ghost use Prim.Native.Nat.{_≤_};
 ghost use lib.ListN.{length};

@@ -1,7 +1,7 @@
 // The zone table: an entry of six bytes a zone.
-use crate::kinds::ENTRY_LEN;
 use crate::kinds::Zone;
 use crate::places::Places;
+use crate::sizes::ENTRY_LEN;
 use field::numbers::get_u16;
 use field::numbers::put_u16;
 ghost use mathlib.Core.Path.{_≡_};

@@ -1,4 +1,4 @@
-/* The volume manager of an IS&C volume, version 1.0: what the box's firmware links with libisc.a.
+/* The volume manager of volumes in the IS&C format 1.0: what the box's firmware links with libisc.a.
 
    What is lent. Books are the first S sectors of the volume, S from 5 to 1,024; the body is zones 2 to Z-1,
    1,048,576 x (Z-2) bytes. docs/INTEGRATION.md says where both stand on the card and in which order to write
@@ -31,9 +31,9 @@
 extern "C" {
 #endif
 
-/* The version of this interface. The minor number goes up with each change of it. */
+/* The version of the library. The minor number goes up with each change that docs/changes/ has a note of. */
 #define ISC_VERSION_MAJOR 1
-#define ISC_VERSION_MINOR 0
+#define ISC_VERSION_MINOR 1
 #define ISC_VERSION (ISC_VERSION_MAJOR * 1000 + ISC_VERSION_MINOR)
 
 /* What a request answers. isc_number_text gives the words. */
@@ -112,7 +112,7 @@ enum {
     ISC_ENTRY_CHANGED = 34,    /* a date */
     ISC_ENTRY_LENGTH = 40,     /* 4 bytes: the byte length */
     ISC_ENTRY_ATTRIBUTE = 44,  /* 2 bytes: a sum of the weights below */
-    ISC_ENTRY_HEADER = 58      /* 6 bytes: a pointer, zero in version 1.0 of this interface */
+    ISC_ENTRY_HEADER = 58      /* 6 bytes: a pointer, always zero in this version */
 };
 
 /* Weights of the attribute. */

@@ -157,6 +157,35 @@ static void test_choice(void) {
     DONE(&r, &then, 2);
 }
 
+/* The only free block of zone 2, block k of `type`: every other sector is file 1's. */
+static struct volume full_but(uint8_t type, uint32_t size, uint32_t k) {
+    struct volume v = mounted(3, 8, 5);
+    struct file *f = put(&v, 1, "FULL", 1024 * (1024 - size), 0);
+    v.type[2] = type;
+    if (k > 0)
+        run(f, 1024, k * size);
+    if (k + 1 < 1024 / size)
+        run(f, 1024 + (k + 1) * size, 1024 - (k + 1) * size);
+    return v;
+}
+
+/* "The lowest free block" is the only one that is free, wherever it lies in the zone and in a byte of the sector table. A
+   zone of type H has one block, and is open while that is free. */
+static void test_only_free(void) {
+    uint8_t type;
+    uint32_t k;
+    for (type = TYPE_C; type < TYPE_H; type++) {
+        uint32_t size = 1U << 2 * (type - TYPE_C);
+        for (k = 0; k < 1024 / size; k++) {
+            struct volume v = full_but(type, size, k), then = v;
+            struct request r = ask(CREATE_FIXED, &v);
+            r.flag = 1 << (type - 1);
+            run(made(&then, 2, "NEW", 1, 0), 1024 + k * size, size);
+            DONE(&r, &then, 2);
+        }
+    }
+}
+
 /* "12 is answered exactly when no set of distinct free blocks, with each open zone given one type, supplies the
    counts." On desk(0) zone 2 is a C zone with 1,004 free sectors. */
 static void test_no_room(void) {
@@ -253,6 +282,8 @@ void test_create(void) {
     BAD_DATES(&r);
     group("isc_create_fixed: the choice of blocks");
     test_choice();
+    group("isc_create_fixed: the only free block, at each place of a zone");
+    test_only_free();
     group("creates: 12 exactly when there is no room");
     test_no_room();
     group("creates: child tables, 13 if too few are free");

@@ -83,7 +83,7 @@ spare-few v t z r lo hi typed =
           let b = r z hi lo (rw is (data-zone typed)) in
           let s : ℕ = blockOf (e .ztype) in
           omega (arith, b .number, sum-le (1024 / s) (λ k. 1 - v .bit (firstOf z + k * s)) (λ k l. omega arith), div-le-self 1024 s))
-      | no ne ↦ (let q = in-other t e (isOpen e) refl h ne in omega arith)
+      | no ne ↦ (let q = in-other t e ne in omega arith)
     ]) (either (isOpen e))
 
 -- a sum of parts none of which is more than 1,024

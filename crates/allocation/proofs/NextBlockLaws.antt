@@ -5,7 +5,7 @@ use mathlib.Core.Bool.{true, false}
 use mathlib.Core.List.{List}
 use Prim.Native.Nat.{ℕ, _+_, _-_, _*_, _≤_, _<_}
 use native.Mathlib.Decide.{ℕ-discrete, decLt}
-use native.Mathlib.Nat.{div-le-self}
+use native.Mathlib.Nat.{div-le-self, add-mul, mul-comm}
 use native.Mathlib.Omega.{arith}
 use borrow.Author.Tests.{lt-ltb, le-ltb, ltb-true, eq-eqb, ne-eqb}
 use Rattle.tables.specs.declared.kinds.Zone.{Zone}
@@ -15,14 +15,42 @@ use Rattle.tables.specs.Blocks.{DataType, blockOf, Block, perZone}
 use Rattle.tables.specs.Kinds.{firstOf}
 use Rattle.tables.specs.Open.{isOpen}
 use Rattle.tables.specs.Room.{spareIn}
+use Rattle.tables.specs.Rules.R1.{ceil}
 use Rattle.tables.specs.Views.{View, viewOf}
 use Rattle.tables.proofs.BlockLaws.{data-block, block-in}
+use Rattle.tables.proofs.ChoiceLaws.{ceil-least, ceil-enough}
 use Rattle.tables.proofs.LackLaws.{in-open, in-other, in-begun}
 use Rattle.allocation.specs.declared.choice.Found.{Found}
 use Rattle.allocation.specs.Find.{find}
 use Rattle.allocation.specs.Choice.{begun, lowestBegun, isClear, lowestClear, begunBlock, openBlock, nextBlock, blockStart}
 use Rattle.allocation.specs.Candidates.{Proper, Behind}
 use Rattle.allocation.proofs.FindLaws.{either, find-skip, find-passes}
+
+-- ---- blocks that begin in so many sectors
+
+-- a product, cut at k
+mul-cut : (j k size : ℕ) → k ≤ j → k * size + (j - k) * size ≡ j * size
+mul-cut j k size l = sym (add-mul k (j - k) size) ∙ ap (λ (n : ℕ). n * size) (let e : k + (j - k) ≡ j = omega arith in e)
+
+-- the first ceil used size of them do
+begins-in : (used size i : ℕ) → 0 < size → i < ceil used size → i * size < used
+begins-in used size i some l = elim (decLt (i * size) used) [
+  | yes b ↦ b
+  | no b ↦ absurd (omega (arith, ceil-least used size i some (omega (arith, mul-comm size i))))
+]
+
+-- one at least, if there is a sector
+pub passed-some : (used size : ℕ) → 0 < size → used ≢ 0 → 0 < ceil used size
+passed-some used size some n = elim (ℕ-discrete (ceil used size) 0) [
+  | yes e ↦ absurd (n (omega (arith, rw e at (ceil-enough used size some))))
+  | no e ↦ omega arith
+]
+
+-- all within the zone, where the sectors are
+pub passed-in : (t size last k used : ℕ) → size ≡ blockOf t → Block size → last ≡ perZone t → k ≤ last → k * size + used ≤ 1024 → k + ceil used size ≤ last
+passed-in t size last k used is block e l h =
+    let whole : last * size ≡ 1024 = rw (e, sym is) (block .whole) in
+    omega (arith, ceil-least used size (last - k) (block .some) (omega (arith, mul-comm size (last - k), mul-cut last k size l)))
 
 -- ---- the tests
 
@@ -53,8 +81,14 @@ module _ (v : View) (t z : ℕ) where
       pub clear-none : (j : ℕ) → j < k → from ≤ j → isClear v t z j ≡ false
       clear-none j l h = clear-no j _ refl (none j l h)
 
-      pub clear-more : (r : ℕ) → r ≡ v .bit (first + k * size) → r ≢ 0 → (j : ℕ) → j < k + 1 → from ≤ j → v .bit (first + j * size) ≢ 0
-      clear-more r q h j l lo = elim (decLt j k) [ yes b ↦ none j b lo | no b ↦ (let e : j ≡ k = omega arith in rw (e, sym q) h) ]
+      -- nor is a block free that begins in sectors that are all in use
+      pub clear-more : (used : ℕ) → 0 < size → ((n : ℕ) → n < used → v .bit (first + k * size + n) ≡ 1) → (j : ℕ) → j < k + ceil used size → from ≤ j → v .bit (first + j * size) ≢ 0
+      clear-more used some all j l lo = elim (decLt j k) [
+        | yes b ↦ none j b lo
+        | no b ↦
+            let e : first + k * size + (j - k) * size ≡ first + j * size = omega (arith, mul-cut j k size (omega arith)) in
+            λ clear. absurd (omega (arith, rw e at (all ((j - k) * size) (begins-in used size (j - k) some (omega arith)))))
+      ]
 
 -- a zone that has free blocks of type t and isn't open, by its entry
 pub record Spare (t : ℕ) (e : ZoneEntry) : Type 0 where
@@ -67,7 +101,7 @@ spare-is t e h =
     ⊎-elim (λ o. absurd (omega (arith, in-open t e (isOpen e) refl o)))
     (λ s. elim (ℕ-discrete (e .ztype) t) [
       | yes q ↦ record { shut = s; ztype = q; some = omega (arith, in-begun t e (isOpen e) refl s q) }
-      | no q ↦ absurd (omega (arith, in-other t e (isOpen e) refl s q))
+      | no q ↦ absurd (omega (arith, in-other t e q))
     ]) (either (isOpen e))
 
 pub begun-is : (v : View) (t z : ℕ) → begun v t z ≡ true → Spare t (v .zone z)

@@ -145,7 +145,7 @@ module _ (t f : ℕ) (typed : DataType t) (l : f < perZone t) where
   entry-own = sym (in-begun t entry (isOpen entry) refl entry-closed refl)
 
   entry-other : (u : ℕ) → t ≢ u → spareIn u entry ≡ 0
-  entry-other u ne = sym (in-other u entry (isOpen entry) refl entry-closed ne)
+  entry-other u ne = sym (in-other u entry ne)
 
 module _ (v v' : View) (t : ℕ) (k : Found) (p : Proper v t k) (taken : Taken v v' t k) where
   -- what is summed over the zones changes by the one zone
@@ -190,7 +190,7 @@ module _ (v v' : View) (t : ℕ) (k : Found) (p : Proper v t k) (taken : Taken v
       let s : spareOf v t ≡ suc (spareOf v' t) = omega (arith, spare-change t, own, b .free, entry-own t (k .free) (p .typed) (p .free)) in
       let q : howMany (t ∷ ts) t - spareOf v t ≡ howMany ts t - spareOf v' t = omega (arith, howMany-own t ts) in
       let same : lackOf v' t (howMany ts t) ≡ lackOf v t (howMany (t ∷ ts) t) = lack-is v' t _ _ refl ∙ sym (ap (λ (n : ℕ). ceil n (perZone t)) q) ∙ sym (lack-is v t _ _ refl) in
-      omega (arith, h, rw (b .closed) at open-change, lack-change ts (λ u ne. sym (in-other u e (isOpen e) refl (b .closed) (λ x. ne (sym (b .ztype) ∙ x)))))
+      omega (arith, h, rw (b .closed) at open-change, lack-change ts (λ u ne. sym (in-other u e (λ x. ne (sym (b .ztype) ∙ x)))))
 
   -- of an open zone: one of these less, and all its blocks but the one are free
   open-enough : (ts : List ℕ) → OfOpen v t k → Enough v (howMany (t ∷ ts)) → Enough v' (howMany ts)

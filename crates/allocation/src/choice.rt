@@ -9,7 +9,8 @@ use tables::open::is_open;
 use tables::places::Places;
 use tables::room::spare_in;
 use tables::sector::put_sectors;
-use tables::sector::sector_bit;
+use tables::sector::used_ahead;
+use tables::sizes::ZONE;
 use tables::zone::put_zone;
 use tables::zone::zone_entry;
 ghost use mathlib.Core.Path.{_≡_};
@@ -66,7 +67,8 @@ fn lowest_open(b: &[u8], p: Places) -> Zone
     Zone(z)
 }
 
-// The lowest free block from `from` on of zone z, of type t.
+// The lowest free block from `from` on of zone z, of type t. Sectors in use are passed over together, and with them every block that begins
+// in them.
 fn clear_from(b: &[u8], p: Places, t: u32, z: Zone, from: u32) -> u32
     requires { ⌜ Layout p (length (now b)) ⌝ }
     requires { ⌜ DataType t ⌝ }
@@ -78,10 +80,12 @@ fn clear_from(b: &[u8], p: Places, t: u32, z: Zone, from: u32) -> u32
     let last = zone_blocks(t);
     let mut k = from;
     while k < last {
-        if sector_bit(b, p, Sector(first + k * size)) == 0 {
+        let at = k * size;
+        let used = used_ahead(b, p, Sector(first + at), ZONE - at);
+        if used == 0 {
             return k;
         }
-        k += 1;
+        k += (used + (size - 1)) / size;
     }
     k
 }

@@ -1,6 +1,6 @@
 -- The laws of runs of bits.
 use mathlib.Core.Path.{_≡_, refl, sym, ap, ap₂, _∙_}
-use mathlib.Core.Logic.{_⊎_, inl, inr, ⊎-elim}
+use mathlib.Core.Logic.{_⊎_, _≢_, inl, inr, ⊎-elim}
 use Prim.Native.Nat.{ℕ, zero, suc, _+_, _-_, _*_, _/_, _%_, _^_, _≤_, _<_}
 use native.Mathlib.Nat.{le-of-suc-le-suc, not-suc-le-zero, eq-or-lt-of-le, add-zero, add-suc, add-assoc, div-div-eq-div-mul, mod-eq-of-lt, zero-div, div-one}
 use native.Mathlib.Numerals.{add-one}
@@ -17,7 +17,7 @@ use Rattle.field.specs.Says.{Says}
 use Rattle.field.specs.Sum.{sumTo}
 use Rattle.field.specs.Bits.{bitOf, bitAt, putBit}
 use Rattle.field.specs.Kept.{Kept}
-use Rattle.field.specs.Runs.{Room, Width, AllBits, setBits, countBits}
+use Rattle.field.specs.Runs.{Room, Width, AllBits, SetAhead, setBits, countBits}
 use Rattle.field.proofs.Frames.{kept-refl, kept-trans, kept-wider}
 use Rattle.field.proofs.Tests.{says-eq}
 use Rattle.field.proofs.Sums.{sum-same, sum-cut, sum-le}
@@ -217,3 +217,13 @@ set-next b s t base from i w v h g = g ∙ ap (λ (x : List ℕ). setBits x base
 
 pub count-next : (b : List ℕ) (base from i w n m : ℕ) → n ≡ countBits b base from i → m ≡ countBits b base (from + i) w → n + m ≡ countBits b base from (i + w)
 count-next b base from i w n m h g = omega (arith, count-cut b base from i w)
+
+-- ---- set bits that are passed over at once
+
+module _ (b : List ℕ) (base at left : ℕ) where
+  pub ahead-some : (w : ℕ) → 0 < w → (w ≤ left) × AllBits b base at w 1 → SetAhead b base at left w
+  ahead-some w l h = record { few = h .0; set = h .1; clear = λ e. absurd (omega arith) }
+
+  -- bit `at` alone
+  pub ahead-one : (x : ℕ) → 0 < left → x ≡ bitAt b base at → x < 2 → x ≢ 0 → SetAhead b base at left 1
+  ahead-one x l h small n = ahead-some 1 (omega arith) (l, λ k lk. ap (bitAt b base) (let e : at + k ≡ at = omega arith in e) ∙ sym h ∙ omega arith)

@@ -25,6 +25,12 @@ pub record Step (at left w : ℕ) : Type 0 where
 abbrev pub AllBits : List ℕ → ℕ → ℕ → ℕ → ℕ → Type 0
 AllBits b base from count v = (k : ℕ) → k < count → bitAt b base (from + k) ≡ v
 
+-- r of the bits that are left from `at` on are set and may be passed over at once; none only where bit `at` is clear
+pub record SetAhead (b : List ℕ) (base at left r : ℕ) : Type 0 where
+  pub few : r ≤ left
+  pub set : AllBits b base at r 1
+  pub clear : r ≡ 0 → bitAt b base at ≡ 0
+
 -- the list with v for each bit of the run
 unfoldable pub setBits : List ℕ → ℕ → ℕ → ℕ → ℕ → List ℕ
 setBits b base from zero v = b

@@ -7,7 +7,7 @@ ghost use mathlib.Core.Path.{_≡_};
 ghost use Prim.Native.Nat.{_+_, _*_, _%_, _≤_, _<_};
 ghost use lib.ListN.{length};
 ghost use Rattle.field.specs.Says.{Says};
-ghost use Rattle.field.specs.Runs.{Room, Step, Width, AllBits, setBits, countBits};
+ghost use Rattle.field.specs.Runs.{Room, Step, Width, AllBits, SetAhead, setBits, countBits};
 
 // How many bits are next worked on at once: a whole byte's, else one.
 fn step(at: usize, left: usize) -> usize
@@ -86,6 +86,38 @@ pub fn bits_all(s: &[u8], base: usize, from: usize, count: usize, v: u32) -> boo
         return bits_each(s, base, from, count, v);
     }
     bytes_all(s, base + from / 8, count / 8, (255 * v) as u8)
+}
+
+// Are there w bits from `at` on, and all of them set?
+fn are_set(s: &[u8], base: usize, at: usize, left: usize, w: usize) -> bool
+    requires { ⌜ Room (length (now s)) base at left ⌝ }
+    ensures { λ r. ⌜ Says r ((w ≤ left) × AllBits (now (s .entry)) base at w 1) ⌝ }
+{
+    if w > left {
+        return false;
+    }
+    bits_all(s, base, at, w, 1)
+}
+
+// How many set bits from `at` on can be passed over at once: eight bytes', a byte's or one; none where bit `at` is clear.
+pub fn set_ahead(s: &[u8], base: usize, at: usize, left: usize) -> usize
+    requires { ⌜ Room (length (now s)) base at left ⌝ }
+    requires { ⌜ 0 < left ⌝ }
+    ensures { λ r. ⌜ SetAhead (now (s .entry)) base at left r ⌝ }
+{
+    if get_bit(s, base, at) == 0 {
+        return 0;
+    }
+    if at % 8 != 0 {
+        return 1;
+    }
+    if are_set(s, base, at, left, 64) {
+        return 64;
+    }
+    if are_set(s, base, at, left, 8) {
+        return 8;
+    }
+    1
 }
 
 // Sets (v = 1) or clears (v = 0) the `count` bits from `from` on.

@@ -1,11 +1,11 @@
 -- The zones that a type lacks: a law for each way out of what counts them.
 use mathlib.Core.Path.{_≡_, refl, sym, ap, ap₂, _∙_}
-use mathlib.Core.Bool.{Bool, true, false}
+use mathlib.Core.Bool.{Bool, true, false, cond}
 use Prim.Native.Nat.{ℕ, zero, suc, _+_, _-_, _*_, _/_, _≤_, _<_}
 use native.Mathlib.Nat.{div-eq-of-lt, div-le-self}
 use native.Mathlib.Omega.{arith}
 use mathlib.Core.List.{List}
-use lib.Dec.{leb}
+use lib.Dec.{eqb, leb}
 use lib.ListN.{getD}
 use borrow.Author.Tests.{eq-eqb, ne-eqb, leb-true, leb-false}
 use Rattle.field.specs.Says.{Says}
@@ -29,16 +29,31 @@ some-blocks t typed = go (perZone t) (data-block t typed .whole)
 pub per-some : (t per : ℕ) → DataType t → per ≡ perZone t → 0 < per
 per-some t per typed e = omega (arith, some-blocks t typed)
 
--- ---- the free blocks of a zone, whose test for being open is r
+-- ---- the free blocks of a zone
 
+module _ (t : ℕ) (e : ZoneEntry) where
+  none : (o : Bool) (n : ℕ) → n ≡ 0 → 0 ≡ cond o 0 n
+  none true n h = refl
+  none false n h = sym h
+
+  -- none where the entry has none, or is of another type
+  pub in-none : e .free ≡ 0 → 0 ≡ spareIn t e
+  unfolding spareIn onlyIf
+  in-none h = none (isOpen e) (onlyIf (eqb (e .ztype) t) (e .free)) (all (eqb (e .ztype) t))
+    where
+      all : (same : Bool) → onlyIf same (e .free) ≡ 0
+      all true = h
+      all false = refl
+
+  pub in-other : (e .ztype ≡ t → ⊥) → 0 ≡ spareIn t e
+  unfolding spareIn onlyIf
+  in-other n = none (isOpen e) (onlyIf (eqb (e .ztype) t) (e .free)) (rw (ne-eqb (e .ztype) t n))
+
+-- those of a zone whose test for being open is r
 module _ (t : ℕ) (e : ZoneEntry) (r : Bool) (is : r ≡ isOpen e) where
   pub in-open : r ≡ true → 0 ≡ spareIn t e
   unfolding spareIn
   in-open h = rw (← is, h)
-
-  pub in-other : r ≡ false → (e .ztype ≡ t → ⊥) → 0 ≡ spareIn t e
-  unfolding spareIn onlyIf
-  in-other h n = rw (← is, h, ne-eqb (e .ztype) t n)
 
   pub in-begun : r ≡ false → e .ztype ≡ t → e .free ≡ spareIn t e
   unfolding spareIn onlyIf

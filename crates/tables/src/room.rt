@@ -15,14 +15,18 @@ ghost use Rattle.tables.specs.Places.{Layout};
 ghost use Rattle.tables.specs.Views.{viewOf};
 ghost use Rattle.tables.specs.Room.{countAt, spareIn, spareOf, lackOf, Enough};
 
-// The free blocks that a zone has for type t, unless it is open.
+// The free blocks that a zone has for type t, unless it is open. Full zones and zones of other types, of which
+// a search meets most, are passed over first.
 pub fn spare_in(t: u32, e: ZoneEntry) -> u64
     ensures { λ r. ⌜ (r ≡ spareIn t e) × (r ≤ 4294967295) ⌝ }
 {
-    if is_open(e) {
+    if e.free == 0 {
         return 0;
     }
     if e.ztype != t {
+        return 0;
+    }
+    if is_open(e) {
         return 0;
     }
     e.free as u64
@@ -49,6 +53,9 @@ fn lack_of(b: &[u8], p: Places, t: u32, n: u32) -> u64
     requires { ⌜ DataType t ⌝ }
     ensures { λ r. ⌜ (r ≡ lackOf (viewOf p (now (b .entry))) t n) × (r ≤ 4294968319) ⌝ }
 {
+    if n == 0 {
+        return 0;
+    }
     let wanted = n as u64;
     let free = spare_of(b, p, t);
     if wanted <= free {

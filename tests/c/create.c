@@ -157,7 +157,7 @@ static void test_choice(void) {
     DONE(&r, &then, 2);
 }
 
-/* The only free block of zone 2, block k of `type`: every other sector is file 1's. */
+/* A volume whose only free block is block k of zone 2, of `type`: every other sector is file 1's. */
 static struct volume full_but(uint8_t type, uint32_t size, uint32_t k) {
     struct volume v = mounted(3, 8, 5);
     struct file *f = put(&v, 1, "FULL", 1024 * (1024 - size), 0);

@@ -32,21 +32,21 @@ use Rattle.allocation.proofs.FindLaws.{either, find-skip, find-passes}
 mul-cut : (j k size : ℕ) → k ≤ j → k * size + (j - k) * size ≡ j * size
 mul-cut j k size l = sym (add-mul k (j - k) size) ∙ ap (λ (n : ℕ). n * size) (let e : k + (j - k) ≡ j = omega arith in e)
 
--- the first ceil used size of them do
+-- block i, one of the first ceil used size, begins in the `used` sectors
 begins-in : (used size i : ℕ) → 0 < size → i < ceil used size → i * size < used
 begins-in used size i some l = elim (decLt (i * size) used) [
   | yes b ↦ b
   | no b ↦ absurd (omega (arith, ceil-least used size i some (omega (arith, mul-comm size i))))
 ]
 
--- one at least, if there is a sector
+-- there is one, if there is a sector
 pub passed-some : (used size : ℕ) → 0 < size → used ≢ 0 → 0 < ceil used size
 passed-some used size some n = elim (ℕ-discrete (ceil used size) 0) [
   | yes e ↦ absurd (n (omega (arith, rw e at (ceil-enough used size some))))
   | no e ↦ omega arith
 ]
 
--- all within the zone, where the sectors are
+-- they end within the zone, where the sectors do
 pub passed-in : (t size last k used : ℕ) → size ≡ blockOf t → Block size → last ≡ perZone t → k ≤ last → k * size + used ≤ 1024 → k + ceil used size ≤ last
 passed-in t size last k used is block e l h =
     let whole : last * size ≡ 1024 = rw (e, sym is) (block .whole) in

@@ -181,6 +181,10 @@ width-whole d e = ⊎-elim (λ one. absurd (omega arith)) (λ both. both .1) (d 
 pub width-one : {at w : ℕ} → Width at w → (w ≡ 8 → ⊥) → w ≡ 1
 width-one d ne = ⊎-elim (λ one. one) (λ both. absurd (ne (both .0))) (d .is)
 
+-- a run of one bit
+all-one : (b : List ℕ) (base at v x : ℕ) → x ≡ bitAt b base at → x ≡ v → AllBits b base at 1 v
+all-one b base at v x h e k l = ap (bitAt b base) (let q : at + k ≡ at = omega arith in q) ∙ sym h ∙ e
+
 module _ (b : List ℕ) (base at w : ℕ) (d : Width at w) where
   pub test-whole : (v x : ℕ) → w ≡ 8 → v < 2 → x ≡ getD b (base + at / 8) 0 → x < 256 → Says (eqb x (255 * v)) (AllBits b base at w v)
   test-whole v x e hv h small =
@@ -190,7 +194,7 @@ module _ (b : List ℕ) (base at w : ℕ) (d : Width at w) where
   pub test-one : (v x : ℕ) → (w ≡ 8 → ⊥) → x ≡ bitAt b base at → Says (eqb x v) (AllBits b base at w v)
   test-one v x ne h =
       rw (width-one d ne)
-      (says-eq x v (λ p k l. ap (bitAt b base) (let e : at + k ≡ at = omega arith in e) ∙ sym h ∙ p) (λ all. h ∙ sym (ap (bitAt b base) (add-zero at)) ∙ all 0 (omega arith)))
+      (says-eq x v (all-one b base at v x h) (λ all. h ∙ sym (ap (bitAt b base) (add-zero at)) ∙ all 0 (omega arith)))
 
   pub set-whole : (v : ℕ) → w ≡ 8 → v < 2 → Room (length b) base at w → ((j : ℕ) → getD b j 0 < 256) → set b (base + at / 8) (255 * v) ≡ setBits b base at w v
   set-whole v e hv room small = rw e (set-byte b base at v (width-whole d e) hv (rw e at room) small)
@@ -226,4 +230,4 @@ module _ (b : List ℕ) (base at left : ℕ) where
 
   -- bit `at` alone
   pub ahead-one : (x : ℕ) → 0 < left → x ≡ bitAt b base at → x < 2 → x ≢ 0 → SetAhead b base at left 1
-  ahead-one x l h small n = ahead-some 1 (omega arith) (l, λ k lk. ap (bitAt b base) (let e : at + k ≡ at = omega arith in e) ∙ sym h ∙ omega arith)
+  ahead-one x l h small n = ahead-some 1 (omega arith) (l, all-one b base at 1 x h (omega arith))

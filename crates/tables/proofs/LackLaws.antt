@@ -31,15 +31,16 @@ per-some t per typed e = omega (arith, some-blocks t typed)
 
 -- ---- the free blocks of a zone
 
-module _ (t : ℕ) (e : ZoneEntry) where
-  none : (o : Bool) (n : ℕ) → n ≡ 0 → 0 ≡ cond o 0 n
-  none true n h = refl
-  none false n h = sym h
+-- nothing, whether the zone is open or not
+neither : (o : Bool) (n : ℕ) → n ≡ 0 → 0 ≡ cond o 0 n
+neither true n h = refl
+neither false n h = sym h
 
+module _ (t : ℕ) (e : ZoneEntry) where
   -- none where the entry has none, or is of another type
   pub in-none : e .free ≡ 0 → 0 ≡ spareIn t e
   unfolding spareIn onlyIf
-  in-none h = none (isOpen e) (onlyIf (eqb (e .ztype) t) (e .free)) (all (eqb (e .ztype) t))
+  in-none h = neither (isOpen e) (onlyIf (eqb (e .ztype) t) (e .free)) (all (eqb (e .ztype) t))
     where
       all : (same : Bool) → onlyIf same (e .free) ≡ 0
       all true = h
@@ -47,7 +48,7 @@ module _ (t : ℕ) (e : ZoneEntry) where
 
   pub in-other : (e .ztype ≡ t → ⊥) → 0 ≡ spareIn t e
   unfolding spareIn onlyIf
-  in-other n = none (isOpen e) (onlyIf (eqb (e .ztype) t) (e .free)) (rw (ne-eqb (e .ztype) t n))
+  in-other n = neither (isOpen e) (onlyIf (eqb (e .ztype) t) (e .free)) (rw (ne-eqb (e .ztype) t n))
 
 -- those of a zone whose test for being open is r
 module _ (t : ℕ) (e : ZoneEntry) (r : Bool) (is : r ≡ isOpen e) where

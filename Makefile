@@ -2,7 +2,7 @@
 #
 #   make                  target/staticlib/libisc.a, proved
 #   make card             target/bin/card, the card tool
-#   make test             the tests of the C border, of the examples and of the card tool
+#   make test             the tests of the C border, of the examples, of the card tool and of the program broken
 #   make compare          the library beside the model of tests/model, byte by byte
 #   make bench            what each request costs
 #   make install PREFIX=  library, header, isc.pc and the card tool
@@ -29,7 +29,7 @@ else
 endif
 
 # The changes of the library that the model is to know too: its cargo features, such as w6,w3
-CHANGES = w6
+CHANGES = w6,w3
 # Of make compare: the seed, the number of requests and the most seconds (0: no limit)
 SEED = 1
 COUNT = 200000
@@ -95,7 +95,13 @@ $(BIN)/%: examples/%.c include/isc.h $(LIB) | tools-c
 	@mkdir -p $(BIN)
 	$(CC) $(C99) $(LDFLAGS) $< $(LIB) -o $@
 
-test: tools-c tools-cxx tools-run $(BIN)/border $(BIN)/card $(BIN)/card_cut $(EXAMPLES)
+# The program that says which rule is broken, proved and built by rt
+$(BIN)/broken: $(RATTLE)
+	$(call needs,rt,of no name: it is the Rattle toolchain)
+	rt check broken
+	@touch $@
+
+test: tools-c tools-cxx tools-run $(BIN)/border $(BIN)/card $(BIN)/card_cut $(BIN)/broken $(EXAMPLES)
 	CC='$(CC)' CXX='$(CXX)' NM='$(NM)' EMULATOR='$(EMULATOR)' tests/run.sh
 
 MODEL = ISC_LIB_DIR=$(CURDIR)/target/staticlib CARGO_TARGET_DIR=$(CURDIR)/target/model tests/model/build-lib.sh $(CHANGES)

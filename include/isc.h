@@ -33,7 +33,7 @@ extern "C" {
 
 /* The version of the library. The minor number goes up with each change that docs/changes/ has a note of. */
 #define ISC_VERSION_MAJOR 1
-#define ISC_VERSION_MINOR 1
+#define ISC_VERSION_MINOR 2
 #define ISC_VERSION (ISC_VERSION_MAJOR * 1000 + ISC_VERSION_MINOR)
 
 /* What a request answers. isc_number_text gives the words. */
@@ -42,7 +42,7 @@ enum isc_number {
     ISC_BOOKS_LENGTH = 1,  /* books not S x 1,024 bytes, S from 5 to 1,024 */
     ISC_MARK = 2,          /* wrong mark or version: no IS&C 1.0 volume */
     ISC_LIMITS = 3,        /* sizes not allowed, or tables out of place */
-    ISC_RULE = 4,          /* another book rule broken */
+    ISC_RULE = 4,          /* another book rule broken: isc_broken_rule says which */
     ISC_NOT_MOUNTED = 5,
     ISC_MOUNTED = 6,       /* mount of a mounted volume */
     ISC_ARGUMENT = 7,      /* an argument not allowed here */
@@ -74,7 +74,8 @@ enum {
     ISC_OWNER_MOST = 32,
     ISC_OWNER_CODE_MOST = 32,
     ISC_LIST_ENTRY = 64,          /* of one entry of isc_list */
-    ISC_REPORT_TEXT = 192         /* the least text that isc_report takes */
+    ISC_REPORT_TEXT = 192,        /* the least text that isc_report takes */
+    ISC_BROKEN_TEXT = 64          /* the least text that isc_broken_text takes */
 };
 
 /* Kinds of file, for the creates. */
@@ -126,6 +127,10 @@ enum isc_weight {
     ISC_WEIGHT_SYSTEM = 64
 };
 
+/* What the place of isc_broken_rule is: nothing, where no rule is broken; a zone, a sector or an index table; or a
+   count, which has no place of its own. */
+enum isc_place_kind { ISC_AT_NOTHING = 0, ISC_AT_ZONE = 1, ISC_AT_SECTOR = 2, ISC_AT_INDEX = 3, ISC_AT_COUNT = 4 };
+
 /* A number in words, for a person to read. */
 static inline const char *isc_number_text(uint32_t number) {
     switch (number) {
@@ -146,6 +151,24 @@ static inline const char *isc_number_text(uint32_t number) {
     case ISC_POSITION: return "the position is beyond the file";
     case ISC_BODY_LENGTH: return "the body has the wrong length";
     default: return "no number of this library";
+    }
+}
+
+/* What a book rule, 1 to 9 for R1 to R9, asks for, for a person to read. Of R1 it is what counts as 4: where the
+   tables stand is asked before, and is 3. */
+static inline const char *isc_rule_text(uint32_t rule) {
+    switch (rule) {
+    case 0: return "no rule is broken";
+    case 1: return "the zone table and the sector table end in nulls";
+    case 2: return "zones 1 and Z read as the tables' own and are in use, every other is empty or of type C to H";
+    case 3: return "each block is wholly in use or wholly free, and each zone's free count is true";
+    case 4: return "each index table is free, a parent or a child, and the free chain meets each free one once";
+    case 5: return "every child stands once in the chains, names its parent, has a pointer; all before it are full";
+    case 6: return "used pointers come first, over whole blocks of types C to H; a file has one, and no header";
+    case 7: return "no sector is under two pointers, and those in use are those under pointers";
+    case 8: return "each file's name, length, attribute and dates are allowed; a variable file has one zone type";
+    case 9: return "the counts of sector 1 are true, and the flag is 0 or 1";
+    default: return "no rule of this format";
     }
 }
 
@@ -258,6 +281,23 @@ uint32_t isc_space(const uint8_t *books, size_t books_len, uint32_t *sectors, ui
    length   gets how many bytes they have */
 uint32_t isc_report(const uint8_t *books, size_t books_len,
                     uint8_t *text, size_t text_len, uint32_t *length);
+
+/* Says which book rule is broken: the lowest of R1 to R9, and in it the lowest place. It is done where others
+   answer 4, and the books need not be mounted. Numbers: 1, 2, 3.
+   rule    gets 1 to 9 (isc_rule_text gives the words), or 0 if no rule is broken; the other two are then 0 too
+   kind    gets what the place is (enum isc_place_kind): a sector for R1 and R7, a zone for R2 and R3, an index
+           table for R4, R5, R6 and R8, a count for R4's free chain and for R9
+   place   gets the number of the zone, of the sector on the volume or of the index table; 0 for a count */
+uint32_t isc_broken_rule(const uint8_t *books, size_t books_len,
+                         uint32_t *rule, uint32_t *kind, uint32_t *place);
+
+/* Writes what isc_broken_rule says: three lines such as `rule=R5`, `kind=index` and `place=17`, with zone, sector,
+   index or count for the kind; or the line `rule=none`, or the line `refused=` with one of the numbers 1 to 3.
+   Number: 7, if text has less than ISC_BROKEN_TEXT bytes, before anything else is examined.
+   text     gets the lines at its start; what is past them stays
+   length   gets how many bytes they have */
+uint32_t isc_broken_text(const uint8_t *books, size_t books_len,
+                         uint8_t *text, size_t text_len, uint32_t *length);
 
 /* Reads whole sectors of an active file. Numbers: books, 7, 15, 8, 9, 10 (read-protected), 14.
    position   in bytes, a multiple of 1,024; at or past the end, which is the byte length rounded up to 1,024, is 14

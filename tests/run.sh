@@ -1,5 +1,5 @@
 #!/bin/sh
-# The tests of the C border, of the examples and of the card tool; `make test` builds what they need and runs them.
+# The tests of the C border, of the examples, of the program broken and of the card tool; `make test` builds what they need and runs them.
 # Prints a line for each check, and last "N passed, M failed" over all of them.
 # CC, CXX, NM: the tools for x86-64; EMULATOR: what runs its programs, empty where the processor does.
 set -u
@@ -62,6 +62,7 @@ for source in examples/*.c; do
     name=$(basename "$source" .c)
     try "example: $name" example "$name"
 done
+suite 'broken' tests/broken/run.sh
 suite 'card tool' tests/card/run.sh "$EMULATOR target/bin/card" "$EMULATOR target/bin/card_cut"
 
 echo "$passed passed, $failed failed"

@@ -53,7 +53,8 @@ static const struct command commands[] = {
      "Protects a file from being read, or from being written and deleted, or both; with neither it lifts the\n"
      "protection.\n" WORD_HELP DATE_HELP},
     {"check", run_check, 1, 1, 0, "IMAGE",
-     "Says that all book rules hold and that the backup is equal to zone 1, or what fails.\n"},
+     "Says that all book rules hold and that the backup is equal to zone 1, or what fails. Where zone 1's tables\n"
+     "break a book rule, it names the lowest one, R1 to R9, and in it the lowest zone, sector or index table.\n"},
     {"map", run_map, 1, 1, TAKES(OPTION_SVG), "IMAGE [--svg FILE]",
      "Draws each zone with its type (C to H; . for an open zone, - for the tables' own), its blocks in use and\n"
      "free, and its sectors.\n\n"

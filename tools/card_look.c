@@ -146,11 +146,8 @@ int run_ls(const struct request *request) {
 }
 
 int run_check(const struct request *request) {
-    struct volume volume;
-    int status = volume_open(&volume, request->operands[0], ACCESS_READ);
-    if (status != CARD_DONE)
-        return status;
-    puts("all book rules hold, and the backup is equal to zone 1");
-    volume_close(&volume);
-    return CARD_DONE;
+    int status = volume_check(request->operands[0]);
+    if (status == CARD_DONE)
+        puts("all book rules hold, and the backup is equal to zone 1");
+    return status;
 }

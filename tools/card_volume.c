@@ -2,6 +2,7 @@
 #include "card_volume.h"
 #include "card_books.h"
 #include "card_progress.h"
+#include "card_rule.h"
 #include "card_save.h"
 #include "card_say.h"
 
@@ -75,6 +76,19 @@ int volume_open(struct volume *volume, const char *path, enum access access) {
     status = mount(volume);
     if (status != CARD_DONE)
         image_close(&volume->image);
+    return status;
+}
+
+int volume_check(const char *path) {
+    struct volume volume;
+    const struct image *image = &volume.image;
+    int status = image_open(&volume.image, path, ACCESS_READ);
+    if (status != CARD_DONE)
+        return status;
+    status = mount(&volume);
+    if (status != CARD_DONE)
+        rule_say(image->before, volume_books(image->before, image->mapped));
+    image_close(&volume.image);
     return status;
 }
 

@@ -27,6 +27,10 @@ uint32_t volume_examine(const struct image *image, const uint8_t *copy, size_t l
    said what is wrong; then nothing is open. */
 int volume_open(struct volume *volume, const char *path, enum access access);
 
+/* Sees whether volume_open opens an image, and closes it again. Where zone 1's tables break a book rule it also says
+   which one, and where. Returns an exit status. */
+int volume_check(const char *path);
+
 /* Dismounts it in memory, makes the backup equal in memory, and writes out what changed: in the body the sectors of one
    file, or nothing if `file` is 0. Returns an exit status. */
 int volume_save(struct volume *volume, uint32_t file);

@@ -58,18 +58,18 @@ struct request ask(enum call call, const struct volume *v) {
     r.from = 1;
     r.position = call == WRITE ? 10240 : 0;
     r.length = call == GROW ? 10241 : 1024;
-    r.room = call == SEARCH ? 2 : call == LIST ? 128 : call == REPORT ? 192 : 1024;
+    r.room = call == SEARCH ? 2 : call == LIST ? 128 : call == REPORT ? 192 : call == BROKEN_TEXT ? 64 : 1024;
     return r;
 }
 
-/* "Every refusal returns zeros beside its number and alters no lent byte." The report is always done, and says the
-   books' refusal in its text. */
+/* "Every refusal returns zeros beside its number and alters no lent byte." The report and the text of the broken rule
+   are always done, and say the books' refusal in their lines. */
 void refused_at(const struct request *r, uint32_t number, const char *file, int line) {
     struct answer a;
     char words[20];
     memset(&a, 0, sizeof a);
     a.number = number;
-    if (r->call == REPORT && number != 7) {
+    if ((r->call == REPORT || r->call == BROKEN_TEXT) && number != 7) {
         a.number = 0;
         a.value[0] = (uint32_t)snprintf(words, sizeof words, "refused=%u\n", number);
         a.filled = text(words);
@@ -116,6 +116,26 @@ void shown_at(const struct request *r, uint32_t sector, const char *file, int li
     memset(&a, 0, sizeof a);
     a.value[0] = 1024 * (sector - 1024);
     a.value[1] = 1024;
+    expect(r, &a, file, line);
+}
+
+/* Done: the broken rule, or with zeros none. "Output: `rule=`, `kind=`, `place=`, one a line; `rule=none` alone if
+   nothing fails." */
+void named_at(const struct request *r, uint32_t rule, uint32_t kind, uint32_t place, const char *file, int line) {
+    static const char *const kinds[] = {"", "zone", "sector", "index", "count"};
+    struct answer a;
+    char words[64] = "rule=none\n";
+    memset(&a, 0, sizeof a);
+    if (r->call == BROKEN_RULE) {
+        a.value[0] = rule;
+        a.value[1] = kind;
+        a.value[2] = place;
+    } else {
+        if (rule != 0)
+            snprintf(words, sizeof words, "rule=R%u\nkind=%s\nplace=%u\n", rule, kinds[kind], place);
+        a.filled = text(words);
+        a.value[0] = (uint32_t)a.filled.len;
+    }
     expect(r, &a, file, line);
 }
 

@@ -3,9 +3,6 @@
 #include "border.h"
 #include <string.h>
 
-/* Where a change is made: sector 0, sector 1, the zone table, the sector table, or index table 1, 2, ... */
-enum place { SECTOR_0, SECTOR_1, ZONE_TABLE, SECTOR_TABLE, INDEX };
-
 /* A number stored over what desk(1) has there, and the refusal that follows. */
 struct change {
     uint32_t number;
@@ -61,13 +58,6 @@ static const struct change changes[] = {
     {4, SECTOR_1, 18, 2, 1}, {4, SECTOR_1, 30, 2, 2}, {4, SECTOR_1, 30, 2, 0xFFFF},
 };
 
-static uint8_t *spot(int place, uint32_t offset) {
-    static const uint32_t sectors[] = {0, 1, 3, 5};
-    if (place > INDEX)
-        return now_books + 1024 * 7 + 128 * (place - INDEX - 1) + offset;
-    return now_books + 1024 * sectors[place] + offset;
-}
-
 static struct request on_desk(enum call call) {
     struct volume v = desk(1);
     v.flag = call != MOUNT;
@@ -88,24 +78,32 @@ static void test_lengths(enum call call) {
     }
 }
 
-static void test_changes(enum call call) {
-    size_t i;
-    for (i = 0; i < sizeof changes / sizeof changes[0]; i++) {
-        struct request r = on_desk(call);
-        put_number(spot(changes[i].place, changes[i].offset), changes[i].bytes, changes[i].value);
-        refused_at(&r, changes[i].number, __FILE__ ":changes", (int)i);
-    }
+/* Where the others answer 4, the broken rule is named: broken.c has that. */
+static int answers(enum call call, uint32_t number) {
+    return number != 4 || (call != BROKEN_RULE && call != BROKEN_TEXT);
 }
 
-/* "5: flag 0, for all but format, mount, report", and that wins over each later number by order.c. */
+static void test_changes(enum call call) {
+    struct volume v = desk(1);
+    size_t i;
+    for (i = 0; i < sizeof changes / sizeof changes[0]; i++)
+        if (answers(call, changes[i].number)) {
+            struct request r = on_desk(call);
+            put_number(spot(&v, now_books, changes[i].place, changes[i].offset), changes[i].bytes, changes[i].value);
+            refused_at(&r, changes[i].number, __FILE__ ":changes", (int)i);
+        }
+}
+
+/* "5: flag 0, for all but format, mount, report", to which the broken rule is added; and that wins over each later
+   number by order.c. */
 static void test_not_mounted(void) {
     struct volume v = desk(1);
     struct request r;
     int call;
     v.flag = 0;
-    group("not mounted: 5 for all but format, mount and report");
+    group("not mounted: 5 for all but format, mount, report and the broken rule");
     for (call = DISMOUNT; call < CALLS; call++)
-        if (call != REPORT) {
+        if (call != REPORT && call != BROKEN_RULE && call != BROKEN_TEXT) {
             r = ask((enum call)call, &v);
             REFUSED(&r, 5);
         }

@@ -69,12 +69,16 @@ void paper_books(const struct volume *v, uint8_t *books);
 void put_number(uint8_t *at, unsigned bytes, uint32_t value);
 uint32_t get_number(const uint8_t *at, unsigned bytes);
 
+/* Where a test alters books: in sector 0, sector 1, the zone table, the sector table, or index table INDEX + 1, ... */
+enum place { SECTOR_0, SECTOR_1, ZONE_TABLE, SECTOR_TABLE, INDEX };
+uint8_t *spot(const struct volume *v, uint8_t *books, int place, uint32_t offset);
+
 /* call.c: one request, lent, called and compared. */
 enum call {
     FORMAT, MOUNT, DISMOUNT, CREATE_FIXED, CREATE_VARIABLE, GROW, TEMPORARY_DELETE, RECOVER, ACTUAL_DELETE,
-    SET_PROTECTION, SEARCH, LIST, LOCATE, SPACE, REPORT, READ, WRITE, SHOW, CALLS
+    SET_PROTECTION, SEARCH, LIST, LOCATE, SPACE, REPORT, BROKEN_RULE, BROKEN_TEXT, READ, WRITE, SHOW, CALLS
 };
-enum { BOOKS_MOST = 1025 * 1024, BODY_MOST = 2 * 1048576 + 1024, FILL = 0x55 };
+enum { BOOKS_MOST = 1025 * 1024, BODY_MOST = 2 * 1048576 + 1024, FILL = 0x55, VALUES_MOST = 3 };
 
 struct slice {
     const uint8_t *at;
@@ -94,8 +98,8 @@ struct request {
 
 struct answer {
     uint32_t number;
-    uint32_t value[2];    /* of show: the place's at and len */
-    const uint8_t *books; /* afterwards; null if they stay as they were */
+    uint32_t value[VALUES_MOST]; /* of show: the place's at and len */
+    const uint8_t *books;        /* afterwards; null if they stay as they were */
     const uint8_t *body;
     struct slice filled; /* what then begins the lent buffer; the rest of it stays */
 };
@@ -115,6 +119,7 @@ void done_at(const struct request *r, const struct volume *then, uint32_t value,
 void filled_at(const struct request *r, uint32_t value, const void *bytes, size_t len, const char *file, int line);
 void written_at(const struct request *r, const struct volume *then, uint32_t moved, const char *file, int line);
 void shown_at(const struct request *r, uint32_t sector, const char *file, int line);
+void named_at(const struct request *r, uint32_t rule, uint32_t kind, uint32_t place, const char *file, int line);
 void bad_dates_at(const struct request *r, const char *file, int line);
 void bad_ids_at(const struct request *r, const char *file, int line);
 
@@ -136,6 +141,7 @@ void test_grow(void);
 void test_delete(void);
 void test_find(void);
 void test_report(void);
+void test_broken(void);
 void test_read(void);
 void test_write(void);
 void test_show(void);

@@ -8,7 +8,7 @@ uint8_t now_books[BOOKS_MOST], now_body[BODY_MOST], then_body[BODY_MOST], ink[BO
 
 /* What is lent for a call. */
 struct loan {
-    struct lent books, body, name, date, in, texts[4], fill, value[2];
+    struct lent books, body, name, date, in, texts[4], fill, value[VALUES_MOST];
     const char *file;
     int line;
 };
@@ -84,6 +84,16 @@ static uint32_t call_report(const struct request *r, struct loan *l) {
     return isc_report(l->books.at, l->books.len, l->fill.at, l->fill.len, value_of(l, 0));
 }
 
+static uint32_t call_broken_rule(const struct request *r, struct loan *l) {
+    (void)r;
+    return isc_broken_rule(l->books.at, l->books.len, value_of(l, 0), value_of(l, 1), value_of(l, 2));
+}
+
+static uint32_t call_broken_text(const struct request *r, struct loan *l) {
+    (void)r;
+    return isc_broken_text(l->books.at, l->books.len, l->fill.at, l->fill.len, value_of(l, 0));
+}
+
 static uint32_t call_read(const struct request *r, struct loan *l) {
     return isc_read(l->books.at, l->books.len, l->body.at, l->body.len, r->id, r->position, r->length, r->exchange,
                     l->fill.at, l->fill.len, value_of(l, 0));
@@ -131,6 +141,8 @@ static const struct {
     {"isc_locate", call_locate, 0, 1, 0},
     {"isc_space", call_space, 0, 2, 0},
     {"isc_report", call_report, 0, 1, 1},
+    {"isc_broken_rule", call_broken_rule, 0, 3, 0},
+    {"isc_broken_text", call_broken_text, 0, 1, 1},
     {"isc_read", call_read, BODY, 1, 1},
     {"isc_write", call_write, BOOKS_WRITTEN | BODY | BODY_WRITTEN | IN | DATE, 1, 0},
     {"isc_show", call_show, BODY, 2, 0},
@@ -164,14 +176,14 @@ static void lend_all(const struct request *r, struct loan *l) {
         l->fill = lend(r->room * calls[r->call].unit, calls[r->call].unit == 1 ? odd : 0);
         memset(l->fill.at, FILL, l->fill.len);
     }
-    for (i = 0; i < 2; i++) {
+    for (i = 0; i < VALUES_MOST; i++) {
         l->value[i] = lend(sizeof(uint32_t), 0);
         *value_of(l, i) = 0xA5A5A5A5;
     }
 }
 
 static void take_all_back(const struct request *r, struct loan *l) {
-    struct lent *all[12];
+    struct lent *all[10 + VALUES_MOST];
     int i, count = 0;
     all[count++] = &l->books;
     all[count++] = &l->body;
@@ -181,7 +193,7 @@ static void take_all_back(const struct request *r, struct loan *l) {
     all[count++] = &l->fill;
     for (i = 0; i < 4; i++)
         all[count++] = &l->texts[i];
-    for (i = 0; i < 2; i++)
+    for (i = 0; i < VALUES_MOST; i++)
         all[count++] = &l->value[i];
     for (i = 0; i < count; i++)
         if (all[i]->map != NULL && !take_back(all[i]))

@@ -6,8 +6,8 @@
 #define SAME(name, left, right) typedef char same_##name[(left) == (right) ? 1 : -1]
 
 SAME(major, ISC_VERSION_MAJOR, 1);
-SAME(minor, ISC_VERSION_MINOR, 1);
-SAME(version, ISC_VERSION, 1001);
+SAME(minor, ISC_VERSION_MINOR, 2);
+SAME(version, ISC_VERSION, 1002);
 
 /* "Numbers a request can answer." */
 SAME(n0, ISC_DONE, 0);
@@ -45,6 +45,7 @@ SAME(owner, ISC_OWNER_MOST, 91 - 60 + 1);
 SAME(owner_code, ISC_OWNER_CODE_MOST, 123 - 92 + 1);
 SAME(list_entry, ISC_LIST_ENTRY, 64);
 SAME(report_text, ISC_REPORT_TEXT, 192);
+SAME(broken_text, ISC_BROKEN_TEXT, 64);
 
 /* "A kind: 0 plain, 1 directory, 2 system." */
 SAME(plain, ISC_PLAIN, 0);
@@ -92,6 +93,13 @@ SAME(weight_variable, ISC_WEIGHT_VARIABLE, 16);
 SAME(weight_directory, ISC_WEIGHT_DIRECTORY, 32);
 SAME(weight_system, ISC_WEIGHT_SYSTEM, 64);
 
+/* "0 nothing, 1 zone, 2 sector, 3 index, 4 count." */
+SAME(at_nothing, ISC_AT_NOTHING, 0);
+SAME(at_zone, ISC_AT_ZONE, 1);
+SAME(at_sector, ISC_AT_SECTOR, 2);
+SAME(at_index, ISC_AT_INDEX, 3);
+SAME(at_count, ISC_AT_COUNT, 4);
+
 /* The functions' types, declared once more: a compiler refuses them if the header's are others. */
 uint32_t isc_format(uint8_t *, size_t, int32_t, int32_t, const uint8_t *, size_t, const uint8_t *, size_t, uint32_t,
                     const uint8_t *, size_t, const uint8_t *, size_t, const uint8_t *, size_t);
@@ -111,6 +119,8 @@ uint32_t isc_list(const uint8_t *, size_t, uint32_t, uint8_t *, size_t, uint32_t
 uint32_t isc_locate(const uint8_t *, size_t, uint32_t, uint32_t, uint32_t *);
 uint32_t isc_space(const uint8_t *, size_t, uint32_t *, uint32_t *);
 uint32_t isc_report(const uint8_t *, size_t, uint8_t *, size_t, uint32_t *);
+uint32_t isc_broken_rule(const uint8_t *, size_t, uint32_t *, uint32_t *, uint32_t *);
+uint32_t isc_broken_text(const uint8_t *, size_t, uint8_t *, size_t, uint32_t *);
 uint32_t isc_read(const uint8_t *, size_t, const uint8_t *, size_t, uint32_t, int32_t, int32_t, uint32_t, uint8_t *,
                   size_t, uint32_t *);
 uint32_t isc_write(uint8_t *, size_t, uint8_t *, size_t, uint32_t, int32_t, int32_t, uint32_t, const uint8_t *, size_t,
@@ -122,14 +132,17 @@ uint32_t isc_show_number(const uint8_t *, size_t, const uint8_t *, size_t, uint3
 const char *use_text(enum isc_number number);
 const char *use_text(enum isc_number number) { return isc_number_text(number); }
 
+const char *use_rule(uint32_t rule);
+const char *use_rule(uint32_t rule) { return isc_rule_text(rule); }
+
 isc_part use_show(const uint8_t *books, size_t books_len, const uint8_t *body, size_t body_len);
 isc_part use_show(const uint8_t *books, size_t books_len, const uint8_t *body, size_t body_len) {
     return isc_show(books, books_len, body, body_len, 1, 0);
 }
 
 int32_t use_kinds(enum isc_kind kind, enum isc_protection protection, enum isc_type type, enum isc_cell cell,
-                  enum isc_weight weight);
+                  enum isc_weight weight, enum isc_place_kind place);
 int32_t use_kinds(enum isc_kind kind, enum isc_protection protection, enum isc_type type, enum isc_cell cell,
-                  enum isc_weight weight) {
-    return (int32_t)kind + (int32_t)protection + (int32_t)type + (int32_t)cell + (int32_t)weight;
+                  enum isc_weight weight, enum isc_place_kind place) {
+    return (int32_t)kind + (int32_t)protection + (int32_t)type + (int32_t)cell + (int32_t)weight + (int32_t)place;
 }

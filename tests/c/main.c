@@ -12,6 +12,7 @@ static void test_all(void) {
     test_delete();
     test_find();
     test_report();
+    test_broken();
     test_read();
     test_write();
     test_show();

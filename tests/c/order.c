@@ -10,7 +10,7 @@ struct scene {
     int length, mark, limits, rule, full, tables;
 };
 
-/* The table of numbers, in its order, as far as a function can answer them; the report's 7 comes first. */
+/* The table of numbers, in its order, as far as a function can answer them; the 7 of a short text comes first. */
 static const int numbers[CALLS][16] = {
     {1, 3, 7},
     {1, 2, 3, 4, 6},
@@ -27,6 +27,8 @@ static const int numbers[CALLS][16] = {
     {1, 2, 3, 4, 5, 8, 9, 14},
     {1, 2, 3, 4, 5},
     {7, 1, 2, 3, 4},
+    {1, 2, 3},
+    {7, 1, 2, 3},
     {1, 2, 3, 4, 5, 7, 15, 8, 9, 10, 14},
     {1, 2, 3, 4, 5, 7, 15, 8, 9, 10, 14, 12, 13},
     {1, 2, 3, 4, 5, 15, 8, 9, 10, 14},
@@ -36,7 +38,7 @@ static void spoil_argument(struct request *r) {
     r->date = text("\x07\xD0\x0D\x01\x01\x01"); /* month 13 */
     r->from = 0;
     r->length = r->call == READ ? -1 : r->length;
-    r->room = r->call == REPORT ? 191 : r->room;
+    r->room = r->call == REPORT ? 191 : r->call == BROKEN_TEXT ? 63 : r->room;
     if (r->call == SEARCH)
         r->name.len = 0;
 }

@@ -223,6 +223,13 @@ static void put_run(uint8_t *at, struct run r) {
 
 static uint8_t *table_at(uint8_t *tables, uint32_t index) { return tables + 128 * (index - 1); }
 
+uint8_t *spot(const struct volume *v, uint8_t *books, int place, uint32_t offset) {
+    const uint32_t sectors[] = {0, 1, v->zone_at, v->sector_at};
+    if (place > INDEX)
+        return table_at(books + 1024 * v->index_at, (uint32_t)(place - INDEX)) + offset;
+    return books + 1024 * sectors[place] + offset;
+}
+
 /* "Child: minus its own number 0-3, parent 4-7, zeros 8-21, seventeen pointers 22-123, next child 124-127." */
 static void put_child(const struct file *f, uint32_t c, uint8_t *at) {
     uint32_t j;

@@ -345,6 +345,59 @@ broken_images() {
     fails "the backup is not equal" "a backup that is not equal" put "$T/b.img" "$T/in" --types C
 }
 
+# breaks PLACE VALUE TEXT NAME: zone 1 with this byte is refused by 4, and check ends with this text and the rule's words;
+# no other line names a rule.
+breaks() {
+    cp "$img" "$T/b.img"
+    set_byte "$T/b.img" "$1" "$2"
+    refused 4 "$4" check "$T/b.img"
+    tail -n 1 "$T/err" | grep -q "^card: check: $3: [a-z]" && [ "$(grep -c 'is broken, \|is broken: ' "$T/err")" -eq 1 ]
+    verdict $? "and check says: $3"
+}
+
+# Z is 3 and N is 2: the zone table stands in sector 2, the sector table in 3, the index tables in 4. File 1 has the
+# sectors 1024 to 1028, file 2 those from 1029 to 1033, and zone 2 has 1014 free blocks of one sector. A bit is flipped:
+broken_rules() {
+    # R1: the first byte behind the three entries of the zone table.
+    breaks $((2 * 1024 + 18)) 1 "rule R1 is broken, first at sector 2" "a tail that is not null"
+    # R2: the type of zone 3, the last, -1 no more.
+    breaks $((2 * 1024 + 12)) 127 "rule R2 is broken, first at zone 3" "a zone's type"
+    # R3: sector 1031 clear, so 1015 blocks are.
+    breaks $((3 * 1024 + 128)) 254 "rule R3 is broken, first at zone 2" "a sector's bit"
+    # R4: table 2 begins with 3; then the first free table, none, is table 1.
+    breaks $((4 * 1024 + 128 + 3)) 3 "rule R4 is broken, first at index table 2" "a table's number"
+    breaks $((1024 + 29)) 1 "rule R4 is broken" "the free chain's start"
+    # R5: the link of table 1 is table 2, a file.
+    breaks $((4 * 1024 + 127)) 2 "rule R5 is broken, first at index table 1" "a link to a file"
+    # R6: the second byte of the header pointer of table 2.
+    breaks $((4 * 1024 + 128 + 59)) 1 "rule R6 is broken, first at index table 2" "a header pointer"
+    # R7: file 2 from 1028, which is file 1's last sector, to 1032.
+    breaks $((4 * 1024 + 128 + 67)) 4 "rule R7 is broken, first at sector 1028" "a pointer's start"
+    # R8: the month of the creation of file 1, January 2026, is 129.
+    breaks $((4 * 1024 + 30)) 129 "rule R8 is broken, first at index table 1" "a date"
+    # R9: nine active files instead of one.
+    breaks $((1024 + 7)) 9 "rule R9 is broken" "a count of files"
+    grep -qxF "card: check: rule R9 is broken: the counts of sector 1 are true, and the flag is 0 or 1" "$T/err"
+    verdict $? "in words, and for a count without a place"
+}
+
+# Where no rule is broken, or the tables are not asked for one, none is named.
+no_broken_rules() {
+    run check "$img"
+    [ $status -eq 0 ] && [ ! -s "$T/err" ] && ! grep -q "is broken" "$T/out"
+    verdict $? "check of a good image names no rule"
+    cp "$img" "$T/b.img"
+    set_byte "$T/b.img" 141 3
+    refused 3 "tables out of place" check "$T/b.img"
+    ! grep -q "is broken" "$T/err"
+    verdict $? "and names no rule"
+    cp "$img" "$T/b.img"
+    set_byte "$T/b.img" $((2 * MIB + 1024 + 7)) 9
+    fails "the backup is not equal" "a wrong count in the backup alone" check "$T/b.img"
+    ! grep -q "is broken" "$T/err"
+    verdict $? "and names no rule, since zone 1 breaks none"
+}
+
 system_errors() {
     fails "No such file" "an image that is not there" ls "$T/nowhere.img"
     fails "No such file" "an input that is not there" put "$img" "$T/nowhere" --types C
@@ -740,6 +793,8 @@ refusals
 protection
 space_again
 broken_images
+broken_rules
+no_broken_rules
 system_errors
 usage
 pictures

@@ -9,17 +9,15 @@ use native.Mathlib.Omega.{arith}
 use lib.Dec.{eqb}
 use borrow.Author.Tests.{eq-eqb, ne-eqb}
 use Rattle.field.specs.Numbers.{u16At, u32At}
-use Rattle.field.specs.Sum.{sumTo}
-use Rattle.field.proofs.Sums.{sum-part, sum-zero, sum-one, sum-out}
+use Rattle.field.proofs.Sums.{different-le}
 use Rattle.tables.specs.declared.places.Places.{Places}
 use Rattle.tables.specs.declared.index.Pointer.{Pointer}
 use Rattle.tables.specs.declared.kinds.Index.{Index}
 use Rattle.tables.specs.Indexes.{tableAt, wordOf, linkOf, slotsOf, baseOf, startOf, countOf, Used, pointerAt, pointerPlace}
-use Rattle.tables.specs.Views.{View, viewOf, Begins, Parent, walk, next, onlyIf}
+use Rattle.tables.specs.Views.{View, viewOf, Begins, Parent, walk, next}
 use Rattle.tables.specs.Rules.R5.{R5, FileChain}
 use Rattle.tables.specs.Rules.R6.{Shape, R6}
 use Rattle.tables.proofs.ChainLaws.{walk-none, walk-once}
-use Rattle.tables.proofs.Sector1CountLaws.{only-eq, only-ne}
 use Rattle.tables.proofs.IndexLaws.{slots-parent, slots-child, base-parent, base-child}
 use Rattle.allocation.specs.declared.growth.Cursor.{Cursor}
 use Rattle.allocation.specs.Find.{find}
@@ -103,17 +101,6 @@ module _ (v : View) (f i n : ℕ) (o : Onward v f i n) where
         }
 
 -- ---- it is the last of the file's chain, since no chain is longer than the number of index tables
-
--- m different numbers below n
-pub different-le : (n m : ℕ) (F : ℕ → ℕ) → ((k : ℕ) → k < m → F k < n) → ((k : ℕ) → k < m → (j : ℕ) → j < k → F j ≢ F k) → m ≤ n
-different-le n m F below once =
-    let taken = sum-out n m F (λ i. 1) (λ i. 1 - met i) below once
-    (λ k l. omega (arith, only-eq (F k) (F k) 1 refl, sum-part m k (λ j. onlyIf (eqb (F j) (F k)) 1) l))
-    (λ i l out. omega (arith, sum-zero m (λ k. onlyIf (eqb (F k) i) 1) (λ k lk. only-ne (F k) i 1 (out k lk)))) in
-    omega (arith, taken, sum-one m (λ k. 1) (λ k l. refl), sum-one n (λ k. 1) (λ k l. refl))
-  where
-    met : ℕ → ℕ
-    met i = sumTo m (λ k. onlyIf (eqb (F k) i) 1)
 
 module _ (v : View) (f m : ℕ) (parent : Parent v f) (ch : FileChain v f m) where
   pub chain-begins : (k : ℕ) → k < suc m → (w : ℕ) × Begins v (walk (next v) f k) w

@@ -1,8 +1,8 @@
 -- The examination of the books: each way on and out of it.
 use mathlib.Core.Path.{_≡_, refl}
-use mathlib.Core.Logic.{inl, inr}
+use mathlib.Core.Logic.{inl, inr, _≢_}
 use mathlib.Core.Bool.{Bool, true, false, not}
-use mathlib.Core.List.{List}
+use mathlib.Core.List.{List, []}
 use Prim.Native.Nat.{ℕ, _+_, _≤_}
 use native.Mathlib.Omega.{arith}
 use lib.ListN.{length}
@@ -11,6 +11,8 @@ use Rattle.field.proofs.Tests.{passed, refused, says-map}
 use Rattle.tables.specs.declared.places.Places.{Places}
 use Rattle.examination.specs.declared.finding.Finding.{Finding}
 use Rattle.examination.specs.declared.finding.Finding.the-variants.{Holds, Fails}
+use Rattle.examination.specs.declared.check.Placing.{Placing}
+use Rattle.examination.specs.declared.check.Placing.the-variants.{At, Refused as Unplaced}
 use Rattle.examination.specs.declared.check.Checked.the-variants.{Refused}
 use Rattle.tables.specs.Each.{Each}
 use Rattle.examination.specs.Findings.{Finds, holdsAt}
@@ -28,9 +30,10 @@ use Rattle.tables.specs.Rules.R9.{R9}
 use Rattle.tables.specs.Lawful.{Lawful}
 use Rattle.examination.specs.Halves.{TablesHold, FilesHold}
 use Rattle.tables.specs.Gates.{Gate}
-use Rattle.tables.specs.Books.{Sized, Marked, Limits, Placed, Good}
-use Rattle.examination.specs.Examined.{Examined}
+use Rattle.tables.specs.Books.{Sized, Marked, Limits, placeTests, Good}
+use Rattle.examination.specs.Examined.{PlacedAt, PlacesFound, Examined}
 use Rattle.tables.proofs.PlaceLaws.{stand-layout}
+use Rattle.tables.proofs.GateLaws.{gate-fails, gate-stop, gate-skip}
 
 -- a finding says whether the rule holds at every place
 pub finds-says : (P : ℕ → Type 0) (from n : ℕ) (f : Finding) (r : Bool) → Finds P from n f → r ≡ holdsAt f → Says r (Each P from n)
@@ -134,32 +137,27 @@ module _ (b : List ℕ) (r : Bool) where
   pub stand-now : (p : Places) → Says r (Stand p (length b)) → not r ≡ false → Stand p (length b)
   stand-now p s e = passed r s e
 
-  pub refused-1 : Says r (Sized b) → not r ≡ true → Examined b (Refused 1)
+  pub refused-1 : Says r (Sized b) → not r ≡ true → PlacesFound b (Unplaced 1)
   unfolding Gate
   refused-1 s e = (inr (refused r s e, refl, omega arith), omega arith)
 
-  pub refused-2 : Sized b → Says r (Marked b) → not r ≡ true → Examined b (Refused 2)
+  pub refused-2 : Sized b → Says r (Marked b) → not r ≡ true → PlacesFound b (Unplaced 2)
   unfolding Gate
   refused-2 h₁ s e = (inl (h₁, inr (refused r s e, refl, omega arith)), omega arith)
 
-  pub refused-3 : Sized b → Marked b → Says r (Limits b) → not r ≡ true → Examined b (Refused 3)
+  pub refused-3 : Sized b → Marked b → Says r (Limits b) → not r ≡ true → PlacesFound b (Unplaced 3)
   unfolding Gate
   refused-3 h₁ h₂ s e = (inl (h₁, inl (h₂, inr ((λ h. refused r s e (h .limits)), refl, omega arith))), omega arith)
 
   module _ (p : Places) where
-    pub unplaced-3 : Sized b → Marked b → p ≡ placesOf b → Says r (Stand p (length b)) → not r ≡ true → Examined b (Refused 3)
+    pub unplaced-3 : Sized b → Marked b → p ≡ placesOf b → Says r (Stand p (length b)) → not r ≡ true → PlacesFound b (Unplaced 3)
     unfolding Gate
     unplaced-3 h₁ h₂ q s e = (inl (h₁, inl (h₂, inr ((λ h. refused r s e (rw q (h .stand))), refl, omega arith))), omega arith)
 
-    placed : Limits b → p ≡ placesOf b → Stand p (length b) → Placed b
-    placed l q st = record { limits = l; stand = rw (← q) st }
-
-    pub refused-4 : Sized b → Marked b → Limits b → p ≡ placesOf b → Stand p (length b) → Says r (Lawful p b) → not r ≡ true → Examined b (Refused 4)
-    unfolding Gate
-    refused-4 h₁ h₂ l q st s e = (inl (h₁, inl (h₂, inl (placed l q st, inr ((λ h. refused r s e (rw q h)), refl, omega arith)))), omega arith)
-
-    pub is-fine : Sized b → Marked b → Limits b → p ≡ placesOf b → Stand p (length b) → Layout p (length b) → Says r (Lawful p b) → not r ≡ false → Good b p
-    is-fine h₁ h₂ l q st lay s e = record { places = q; sized = h₁; marked = h₂; placed = placed l q st; layout = lay; lawful = passed r s e }
+    pub places-found : Sized b → Marked b → Limits b → p ≡ placesOf b → Layout p (length b) → Says r (Stand p (length b)) → not r ≡ false → PlacesFound b (At p)
+    places-found h₁ h₂ l q lay s e =
+        let st = passed r s e in
+        record { places = q; sized = h₁; marked = h₂; placed = record { limits = l; stand = rw (← q) st }; stand = st; layout = lay }
 
 module _ (b : List ℕ) where
   pub has-room : Sized b → 2048 ≤ length b
@@ -170,3 +168,29 @@ module _ (b : List ℕ) where
 
   pub has-layout : (p : Places) → Sized b → Limits b → p ≡ placesOf b → Stand p (length b) → Layout p (length b)
   has-layout p s l q st = stand-layout p (length b) (rw q (l .least)) (rw q (l .most)) (rw q (l .some)) (rw q (l .few)) (s .most) st
+
+  -- ---- what the first three numbers leave
+
+  -- arm by arm
+  module _ (found : Placing) (h : PlacesFound b found) where
+    pub found-at : (p : Places) → found ≡ At p → PlacedAt b p
+    found-at p e = rw e at h
+
+    pub found-unplaced : (n : ℕ) → found ≡ Unplaced n → Gate (placeTests b) n × (n ≢ 0)
+    found-unplaced n e = rw e at h
+
+  pub unplaced-refused : (n : ℕ) → Gate (placeTests b) n × (n ≢ 0) → Examined b (Refused n)
+  unplaced-refused n h = (gate-stop (placeTests b) _ n (h .0) (h .1), h .1)
+
+  module _ (p : Places) (at : PlacedAt b p) where
+    pub placed-zero : Gate (placeTests b) 0
+    unfolding Gate
+    placed-zero = inl (at .sized, inl (at .marked, inl (at .placed, refl)))
+
+    pub refused-4 : (r : Bool) → Says r (Lawful p b) → not r ≡ true → Examined b (Refused 4)
+    refused-4 r s e =
+        let broken : Lawful (placesOf b) b → ⊥ = λ l. refused r s e (rw (at .places) l) in
+        (gate-skip (placeTests b) _ 0 4 placed-zero refl (gate-fails 4 (Lawful (placesOf b) b) [] (omega arith) broken), omega arith)
+
+    pub is-fine : (r : Bool) → Says r (Lawful p b) → not r ≡ false → Good b p
+    is-fine r s e = record { places = at .places; sized = at .sized; marked = at .marked; placed = at .placed; layout = at .layout; lawful = passed r s e }

@@ -5,9 +5,16 @@ pub mod SlotLaws
 pub mod MetLaws
 pub mod FreeLaws
 pub mod ChildLaws
+pub mod MeetingLaws
 pub mod WholeLaws
+pub mod TailLaws
 pub mod ZoneLaws
 pub mod CountedLaws
 pub mod SurveyLaws
 pub mod PieceLaws
 pub mod MarkLaws
+pub mod LimitLaws
+pub mod RulingLaws
+pub mod ChainedLaws
+pub mod SectorLaws
+pub mod BrokenLaws

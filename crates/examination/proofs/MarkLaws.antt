@@ -71,6 +71,11 @@ first-none t base m = record { len = refl; bits = λ n. omega arith }
 pub still-long : (i : ℕ) (t m₀ m : List ℕ) (D : ℕ → ℕ) → MarksAdded m₀ m D → TableFits i t (length m₀) → length m ≡ 4096
 still-long i t m₀ m D a f = a .len ∙ f .long
 
+-- a pointer that is read ends within the marks
+pub pointer-room : (i : ℕ) (t : List ℕ) (len base slots j : ℕ) (q : Pointer) → TableFits i t len → base ≡ baseOf i t → slots ≡ slotsOf i t → j < slots → q ≡ pointerAt t (base + 6 * j)
+    → q .start .0 + q .count ≤ 262144
+pointer-room i t len base slots j q f eb es l e = rw (e, eb) (f .fit j (omega arith))
+
 module _ (t : List ℕ) (m₀ m : List ℕ) (base j : ℕ) (a : MarksAdded m₀ m (overFirst t base j)) where
   module _ (q : Pointer) (eq : q ≡ pointerAt t (base + 6 * j)) where
     start-is : q .start .0 ≡ u32At t (base + 6 * j)
@@ -86,11 +91,6 @@ module _ (t : List ℕ) (m₀ m : List ℕ) (base j : ℕ) (a : MarksAdded m₀ 
         record { len = x .len ∙ a .len; bits = λ n. omega (arith, x .bits n, a .bits n, sum-more j (λ j. cov (u32At t (base + 6 * j)) (u16At t (base + 6 * j + 4)) n)) }
 
     module _ (i slots : ℕ) (eb : base ≡ baseOf i t) (es : slots ≡ slotsOf i t) (l : j < slots) where
-      pub pointer-room : TableFits i t (length m₀) → q .start .0 + q .count ≤ 262144
-      pointer-room f =
-          let h = rw (← eb) at (f .fit j (omega arith)) in
-          omega (arith, start-is, count-is)
-
       pub first-stop : (r : Bool) (m' : List ℕ) → Adds r m m' (cov (q .start .0) (q .count)) → not r ≡ true → Adds false m₀ m' (claimsOf i t)
       unfolding overFirst claimsOf overOf
       first-stop r m' d e h =

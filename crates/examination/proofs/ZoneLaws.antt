@@ -1,13 +1,12 @@
--- R1's tails, R2 and R3: a law for each way out of what examines them.
+-- R2 and R3: a law for each way out of what examines them.
 use mathlib.Core.Path.{_≡_, sym, ap, _∙_}
 use mathlib.Core.Logic.{_⊎_, inl, inr, ⊎-elim}
 use mathlib.Core.Bool.{Bool, true, false, not}
-use Prim.Native.Nat.{ℕ, _+_, _-_, _*_, _≤_, _<_}
+use Prim.Native.Nat.{ℕ, _+_, _≤_, _<_}
 use native.Mathlib.Omega.{arith}
 use mathlib.Core.List.{List}
 use lib.Dec.{eqb}
 use Rattle.field.specs.Says.{Says}
-use Rattle.field.specs.Parts.{AllBytes}
 use Rattle.field.specs.Runs.{AllBits}
 use Rattle.field.proofs.Tests.{passed, refused, says-true, says-false, says-map, says-eq}
 use Rattle.examination.proofs.FindingLaws.{each-none, each-more, fails-here, holds-all}
@@ -17,21 +16,10 @@ use Rattle.tables.specs.Blocks.{ZoneType, blockOf}
 use Rattle.tables.specs.Each.{Each}
 use Rattle.examination.specs.Findings.{Lowest}
 use Rattle.tables.specs.Kinds.{firstOf}
-use Rattle.tables.specs.Rules.R1.{zoneBytes, sectorBytes, Tails}
 use Rattle.tables.specs.Rules.R2.{Reads, ZoneBits, Untyped, InUse, ZoneLaw}
 use Rattle.tables.specs.Rules.R3.{Blocks, BlockLaw}
 use Rattle.tables.specs.Views.{View, viewOf}
 use Rattle.tables.specs.Zones.{zoneAt}
-
--- ---- R1's tails
-
-module _ (p : Places) (b : List ℕ) where
-  pub tails-stop : (r : Bool) → Says r (AllBytes b (p .zonetable + 6 * p .zones) (zoneBytes (p .zones) - 6 * p .zones) 0) → not r ≡ true → Tails p b → ⊥
-  tails-stop r s e t = refused r s e (t .zone)
-
-  pub tails-says : (q r : Bool) → Says q (AllBytes b (p .zonetable + 6 * p .zones) (zoneBytes (p .zones) - 6 * p .zones) 0) → not q ≡ false
-      → Says r (AllBytes b (p .sectortable + 128 * p .zones) (sectorBytes (p .zones) - 128 * p .zones) 0) → Says r (Tails p b)
-  tails-says q r s e = says-map r (λ t. record { zone = passed q s e; sector = t }) (λ t. t .sector)
 
 -- ---- an entry
 

@@ -7,3 +7,8 @@ pub mod Surveys
 pub mod Marks
 pub mod Halves
 pub mod Examined
+pub mod Chained
+pub mod Meetings
+pub mod Rulings
+pub mod Faults
+pub mod Limits

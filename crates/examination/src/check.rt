@@ -30,7 +30,13 @@ ghost use Rattle.tables.specs.Rules.R6.{R6};
 ghost use Rattle.tables.specs.Lawful.{Lawful};
 ghost use Rattle.examination.specs.Halves.{TablesHold, FilesHold};
 ghost use Rattle.tables.specs.Books.{Sized, Marked, Limits};
-ghost use Rattle.examination.specs.Examined.{Examined};
+ghost use Rattle.examination.specs.Examined.{PlacesFound, Examined};
+
+// Where the tables stand, or the first of numbers 1 to 3 that applies.
+pub enum Placing {
+    At(Places),
+    Refused(u32),
+}
 
 // Lawful books and their places, or the first number that applies.
 pub enum Checked {
@@ -187,24 +193,37 @@ fn rules_hold(b: &[u8], p: Places) -> bool
     files_hold(b, p)
 }
 
-pub fn check(b: &[u8]) -> Checked
-    ensures { λ r. ⌜ Examined (now (b .entry)) r ⌝ }
+// Numbers 1 to 3: whether there are tables to examine.
+pub fn find_places(b: &[u8]) -> Placing
+    ensures { λ r. ⌜ PlacesFound (now (b .entry)) r ⌝ }
 {
     if !sized(b) {
-        return Checked::Refused(1);
+        return Placing::Refused(1);
     }
     if !marked(b) {
-        return Checked::Refused(2);
+        return Placing::Refused(2);
     }
     if !limits(b) {
-        return Checked::Refused(3);
+        return Placing::Refused(3);
     }
     let p = read_places(b);
     if !stands(p, b.len()) {
-        return Checked::Refused(3);
+        return Placing::Refused(3);
     }
-    if !rules_hold(b, p) {
-        return Checked::Refused(4);
+    Placing::At(p)
+}
+
+pub fn check(b: &[u8]) -> Checked
+    ensures { λ r. ⌜ Examined (now (b .entry)) r ⌝ }
+{
+    let found = find_places(b);
+    match found {
+        Placing::Refused(n) => Checked::Refused(n),
+        Placing::At(p) => {
+            if !rules_hold(b, p) {
+                return Checked::Refused(4);
+            }
+            Checked::Fine(p)
+        }
     }
-    Checked::Fine(p)
 }

@@ -19,7 +19,7 @@ ghost use Rattle.examination.specs.Met.{SomeUsed, ChildMet, Follows, Bef
 ghost use Rattle.tables.specs.Rules.R5.{Full, R5};
 
 // Is table i full of pointers?
-fn is_full(b: &[u8], p: Places, i: Index) -> bool
+pub fn is_full(b: &[u8], p: Places, i: Index) -> bool
     requires { ⌜ Layout p (length (now b)) ⌝ }
     requires { ⌜ (1 ≤ i .0) × (i .0 ≤ p .indexes) ⌝ }
     ensures { λ r. ⌜ Says r (Full (viewOf p (now (b .entry))) (i .0)) ⌝ }
@@ -38,7 +38,7 @@ fn is_full(b: &[u8], p: Places, i: Index) -> bool
 }
 
 // Has table t, of number i, at least one pointer?
-fn some_used(i: Index, t: &[u8]) -> bool
+pub fn some_used(i: Index, t: &[u8]) -> bool
     requires { ⌜ length (now t) ≡ 128 ⌝ }
     ensures { λ r. ⌜ Says r (SomeUsed (i .0) (now (t .entry))) ⌝ }
 {
@@ -74,7 +74,7 @@ fn follows(b: &[u8], p: Places, of: Index, last: Index, at: Index) -> bool
 }
 
 // Where table i leads.
-fn next_of(b: &[u8], p: Places, i: Index) -> Index
+pub fn next_of(b: &[u8], p: Places, i: Index) -> Index
     requires { ⌜ Layout p (length (now b)) ⌝ }
     requires { ⌜ (1 ≤ i .0) × (i .0 ≤ p .indexes) ⌝ }
     ensures { λ r. ⌜ r .0 ≡ linkOf (viewOf p (now (b .entry)) .table (i .0)) ⌝ }

@@ -15,7 +15,7 @@ use tables::places::Places;
 use tables::sizes::ROUND_UP;
 use tables::sizes::SECTOR;
 ghost use mathlib.Core.Path.{_≡_};
-ghost use Prim.Native.Nat.{_+_, _≤_, _<_};
+ghost use Prim.Native.Nat.{_+_, _≤_};
 ghost use lib.ListN.{length};
 ghost use Rattle.field.specs.Says.{Says};
 ghost use Rattle.tables.specs.Places.{Layout};

@@ -5,7 +5,7 @@ ghost use Rattle.examination.specs.Findings.{holdsAt};
 pub enum Finding {
     // The rule holds at every place.
     Holds,
-    // The lowest place where it fails: a zone or an index.
+    // The lowest place where it fails: a zone, a sector or an index.
     Fails(u32),
 }
 

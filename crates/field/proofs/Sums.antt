@@ -2,7 +2,7 @@
 use mathlib.Core.Path.{_≡_, refl, sym, ap, ap₂, _∙_}
 use mathlib.Core.Logic.{_≢_, ⊎-elim}
 use mathlib.Core.Bool.{cond}
-use Prim.Native.Nat.{ℕ, zero, suc, _+_, _≤_, _<_}
+use Prim.Native.Nat.{ℕ, zero, suc, _+_, _-_, _≤_, _<_}
 use native.Mathlib.Nat.{eq-or-lt-of-le, le-of-suc-le-suc, not-suc-le-zero, le-refl, add-zero, add-suc}
 use native.Mathlib.Numerals.{add-one}
 use native.Mathlib.Decide.{ℕ-discrete, decLt}
@@ -115,6 +115,20 @@ sum-out n (suc m) F f f' below once zeros same =
       | yes e ↦ rw (eq-eqb i (F m) e, e) (zeros m (omega arith))
       | no d ↦ rw (ne-eqb i (F m) d) (same i l (λ k lk. elim (ℕ-discrete k m) [ yes q ↦ (λ e. d (sym e ∙ ap F q)) | no q ↦ ne k (omega arith) ]))
     ]
+
+-- so many different numbers below n are at most n
+pub different-le : (n m : ℕ) (F : ℕ → ℕ) → ((k : ℕ) → k < m → F k < n) → ((k : ℕ) → k < m → (j : ℕ) → j < k → F j ≢ F k) → m ≤ n
+different-le n m F below once =
+    let taken = sum-out n m F (λ i. 1) (λ i. 1 - sumTo m (hit i)) below once
+    (λ k l. omega (arith, hit-here k, sum-part m k (hit (F k)) l))
+    (λ i l out. omega (arith, sum-zero m (hit i) (λ k lk. rw (ne-eqb (F k) i (out k lk)) refl))) in
+    omega (arith, taken, sum-one m (λ k. 1) (λ k l. refl), sum-one n (λ k. 1) (λ k l. refl))
+  where
+    hit : ℕ → ℕ → ℕ
+    hit i k = cond (eqb (F k) i) 1 0
+
+    hit-here : (k : ℕ) → hit (F k) k ≡ 1
+    hit-here k = rw (eq-eqb (F k) (F k) refl) refl
 
 -- a sum of parts that are 0 or 1, of which one at most is not 0
 pub sum-once : (n : ℕ) (f : ℕ → ℕ) → ((k : ℕ) → k < n → f k ≤ 1) → ((k : ℕ) → k < n → (l : ℕ) → l < n → 0 < f k → 0 < f l → k ≡ l) → sumTo n f ≤ 1

@@ -4,7 +4,7 @@ use crate::bits::put_bit;
 use crate::numbers::wide;
 use crate::parts::bytes_all;
 ghost use mathlib.Core.Path.{_≡_};
-ghost use Prim.Native.Nat.{_+_, _*_, _%_, _≤_, _<_};
+ghost use Prim.Native.Nat.{_*_, _%_, _≤_, _<_};
 ghost use lib.ListN.{length};
 ghost use Rattle.field.specs.Says.{Says};
 ghost use Rattle.field.specs.Runs.{Room, Step, Width, AllBits, SetAhead, setBits, countBits};

@@ -8,7 +8,7 @@ use native.Mathlib.Omega.{arith}
 use lib.ListN.{length}
 use Rattle.field.specs.Sum.{sumTo}
 use Rattle.field.proofs.BitLaws.{bitAt-lt}
-use Rattle.field.proofs.Sums.{sum-upto}
+use Rattle.field.proofs.Sums.{sum-upto, different-le}
 use Rattle.tables.specs.declared.places.Places.{Places}
 use Rattle.tables.specs.Indexes.{wordOf, minus, slotsOf, startOf, countOf, sectorsOf, fileOf}
 use Rattle.tables.specs.Places.{Layout}
@@ -20,7 +20,6 @@ use Rattle.tables.specs.Rules.R8.{fileSectors}
 use Rattle.tables.proofs.ChainLaws.{walk-place}
 use Rattle.tables.proofs.IndexLaws.{slots-free}
 use Rattle.tables.proofs.PointerLaws.{one-pointer}
-use Rattle.allocation.proofs.LastLaws.{different-le}
 use Rattle.allocation.proofs.ChangeLaws.{parent-file, child-file, member-file}
 use Rattle.files.specs.declared.spot.Spot.{Spot}
 use Rattle.files.specs.Spots.{spotStart, spotOf, kthSector}

@@ -1,16 +1,14 @@
 -- Histories: what each step keeps, all of them keep; and the length of the free chain.
 use mathlib.Core.Path.{_≡_, refl, sym, ap, _∙_}
 use mathlib.Core.Logic.{_≢_}
-use Prim.Native.Nat.{ℕ, _+_, _-_, _≤_, _<_}
+use Prim.Native.Nat.{ℕ, _-_, _≤_, _<_}
 use native.Mathlib.Omega.{arith}
-use Rattle.field.proofs.Sums.{sum-one, sum-out}
+use Rattle.field.proofs.Sums.{different-le}
 use Rattle.tables.specs.Places.{placesOf}
 use Rattle.tables.specs.Rules.R4.{FreeChain}
 use Rattle.tables.specs.Rules.R8.{fileSectors}
-use Rattle.tables.specs.Rules.R9.{freeOne}
 use Rattle.tables.specs.Views.{View, Parent, walk, next}
 use Rattle.tables.proofs.ChainLaws.{walk-once}
-use Rattle.tables.proofs.Sector1CountLaws.{free-yes, free-no}
 use Rattle.files.specs.Moves.{sectorContent}
 use Rattle.files.specs.Spots.{kthSector}
 use Rattle.files.proofs.UntouchedLaws.{other-parent, other-places}
@@ -60,23 +58,5 @@ spared-stays v w start f k n here (then {v = x} h s) spared =
 
 pub free-short : (v : View) (m : ℕ) → FreeChain v m → m ≤ v .indexes
 free-short v m chain =
-    let s = sum-out (v .indexes) m (λ k. walk (next v) (v .head) k - 1) (λ i. 1) (λ i. 1 - freeOne (i + 1) (v .table (i + 1))) (λ k l. omega (arith, chain .each k l .low, chain .each k l .high)) once zeros ones in
-    omega (arith, sum-one m (λ k. 1) (λ k l. refl), sum-one (v .indexes) (λ k. 1) (λ k l. refl))
-  where
-    once : (k : ℕ) → k < m → (j : ℕ) → j < k → walk (next v) (v .head) j - 1 ≢ walk (next v) (v .head) k - 1
-    once k l j lj e =
-        walk-once (next v) (v .head) m (chain .ends) (λ n ln. chain .each n ln .low) k l j lj (omega (arith, chain .each k l .low, chain .each j (omega arith) .low))
-
-    zeros : (k : ℕ) → k < m → 1 - freeOne (walk (next v) (v .head) k - 1 + 1) (v .table (walk (next v) (v .head) k - 1 + 1)) ≡ 0
-    zeros k l =
-        let b = chain .each k l in
-        let e : walk (next v) (v .head) k - 1 + 1 ≡ walk (next v) (v .head) k = omega (arith, b .low) in
-        omega (arith, free-yes (walk (next v) (v .head) k - 1 + 1) (v .table (walk (next v) (v .head) k - 1 + 1)) (rw e (b .word)))
-
-    ones : (i : ℕ) → i < v .indexes → ((k : ℕ) → k < m → walk (next v) (v .head) k - 1 ≢ i) → 1 - freeOne (i + 1) (v .table (i + 1)) ≡ 1
-    ones i l ne = omega (
-      arith,
-      free-no (i + 1) (v .table (i + 1)) (λ z.
-          let q = chain .every (i + 1) (record { low = omega arith; high = omega arith; word = z }) in
-          ne (q .0) (q .1) (omega (arith, q .2))),
-    )
+    different-le (v .indexes) m (λ k. walk (next v) (v .head) k - 1) (λ k l. omega (arith, chain .each k l .low, chain .each k l .high)) (λ k l j lj e.
+    walk-once (next v) (v .head) m (chain .ends) (λ n ln. chain .each n ln .low) k l j lj (omega (arith, chain .each k l .low, chain .each j (omega arith) .low)))

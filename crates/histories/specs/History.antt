@@ -14,6 +14,7 @@ use Rattle.files.specs.Moves.{moved, sectorContent, bufferSector}
 use Rattle.files.specs.Spots.{kthSector}
 use Rattle.requests.specs.declared.amount.Amount.{Amount}
 use Rattle.requests.specs.declared.answer.Answer.{Answer}
+use Rattle.requests.specs.declared.broken_rule.Diagnosis.{Diagnosis}
 use Rattle.requests.specs.declared.create.Created.{Created}
 use Rattle.requests.specs.declared.locate.Located.{Located}
 use Rattle.requests.specs.declared.report.Text.{Text}
@@ -22,6 +23,7 @@ use Rattle.requests.specs.Answers.{numberOf}
 use Rattle.requests.specs.Body.{BodySized}
 use Rattle.requests.specs.Create.{CreatedFixed, CreatedVariable}
 use Rattle.requests.specs.Delete.{Deleted}
+use Rattle.requests.specs.Diagnosis.{Diagnosed, DiagnosisText}
 use Rattle.requests.specs.Amounts.{amountValue}
 use Rattle.requests.specs.Grow.{Grew}
 use Rattle.requests.specs.Listing.{Listed}
@@ -62,6 +64,8 @@ pub data Question : Type 0 where
   read : (id : ℕ) (position long : Amount) (exchange : Bool) (out : List ℕ) → Question
   space : Question
   report : Question
+  brokenRule : Question
+  brokenText : Question
 
 abbrev pub Answers : Question → Volume → Type 0
 Answers (search pattern ids) v = (r : Answer) × (ids' : List ℕ) × Searched (v .books) pattern ids r ids'
@@ -72,6 +76,8 @@ Answers (showNumber id k) v = (r : ℕ) × Gate (showTests (v .books) (v .body) 
 Answers (read id position long exchange out) v = (r : Answer) × (out' : List ℕ) × ReadOut (v .books) (v .body) id position long exchange out r out'
 Answers space v = (r : Space) × Spaced (v .books) r
 Answers report v = (r : Text) × Reported (v .books) r
+Answers brokenRule v = (r : Diagnosis) × Diagnosed (v .books) r
+Answers brokenText v = (r : Text) × DiagnosisText (v .books) r
 
 -- these, and those that may change it
 pub data Request : Type 0 where

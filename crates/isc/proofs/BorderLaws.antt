@@ -2,7 +2,7 @@
 use mathlib.Core.Path.{_≡_, refl, sym, ap, _∙_}
 use mathlib.Core.Bool.{Bool}
 use mathlib.Core.List.{List}
-use Prim.Native.Nat.{ℕ, _+_, _≤_, _<_}
+use Prim.Native.Nat.{ℕ, _≤_, _<_}
 use native.Mathlib.Decide.{decLt}
 use native.Mathlib.Omega.{arith}
 use lib.ListN.{length, take}
@@ -10,6 +10,10 @@ use lib.IntN.{ℤ}
 use Rattle.field.specs.Parts.{over}
 use Rattle.tables.specs.declared.kinds.Sector.{Sector}
 use Rattle.requests.specs.declared.answer.Answer.{Answer}
+use Rattle.examination.specs.declared.fault.Fault.{Fault}
+use Rattle.examination.specs.Faults.{ruleOf, placeKindOf, placeOf}
+use Rattle.requests.specs.declared.broken_rule.Diagnosis.{Diagnosis}
+use Rattle.requests.specs.declared.broken_rule.Diagnosis.the-variants.{Found, Refused as Unexamined}
 use Rattle.requests.specs.declared.create.Created.{Created}
 use Rattle.requests.specs.declared.locate.Located.{Located}
 use Rattle.requests.specs.declared.locate.Located.the-variants.{At, Refused as NotLocated}
@@ -25,8 +29,10 @@ use Rattle.tables.specs.Books.{bookTests}
 use Rattle.tables.proofs.GateLaws.{gate-one}
 use Rattle.requests.specs.Space.{Spaced, numberOf, sectorsValue, usedValue}
 use Rattle.requests.proofs.SpaceLaws.{spaced-one}
-use Rattle.requests.specs.Report.{reportOf, Reported}
-use Rattle.requests.proofs.ReportLaws.{text-length, text-part}
+use Rattle.requests.specs.Report.{reportOf, asText, Reported}
+use Rattle.requests.proofs.ReportLaws.{text-length, text-part, text-fits, text-count}
+use Rattle.requests.specs.Diagnosis.{numberOf as diagnosisNumber, ruleValue, kindValue, placeValue, Diagnosed, diagnosisLines, DiagnosisText}
+use Rattle.requests.proofs.DiagnosisLaws.{diagnosed-one}
 use Rattle.tables.specs.declared.counts.Chosen.{Chosen}
 use Rattle.tables.specs.Counts.{chosenTypes}
 use Rattle.allocation.specs.NewTables.{New}
@@ -44,7 +50,7 @@ use Rattle.requests.specs.Read.{ReadOut}
 use Rattle.requests.proofs.ReadLaws.{read-one as read-out-one}
 use Rattle.requests.specs.Write.{Wrote}
 use Rattle.requests.proofs.WriteLaws.{wrote-one}
-use Rattle.isc.specs.Border.{AnswerOut, CreateOut, LocateOut, SpaceOut, Lines, ReportOut}
+use Rattle.isc.specs.Border.{AnswerOut, CreateOut, LocateOut, SpaceOut, BrokenOut, Lines, TextOut, TextRoom, ReportLines, BrokenLines}
 
 pub space-is : (b : List ℕ) (found : Space) (s u : ℕ) → Spaced b found → found ≡ Is s u → SpaceOut b 0 s u
 space-is b found s u h e = record { answer = Is s u; spaced = rw e at h; number = refl; all = refl; taken = refl }
@@ -52,23 +58,56 @@ space-is b found s u h e = record { answer = Is s u; spaced = rw e at h; number 
 pub space-no : (b : List ℕ) (found : Space) (n : ℕ) → Spaced b found → found ≡ Refused n → SpaceOut b n 0 0
 space-no b found n h e = record { answer = Refused n; spaced = rw e at h; number = refl; all = refl; taken = refl }
 
-pub report-short : (b text : List ℕ) → length text < 192 → ReportOut b text 7 text 0
-report-short b text h = record { refused = λ l. (refl, refl, refl); written = λ l. absurd (omega arith) }
+-- ---- texts
 
-pub report-lines : (b text text' : List ℕ) (t : Text) → 192 ≤ length text → Reported b t → text' ≡ over text 0 (take (t .length) (t .bytes)) → ReportOut b text 0 text' (t .length)
-report-lines b text text' t l h e = record {
-  refused = λ s. absurd (omega arith);
-  written = λ s. record {
-    number = h .number;
-    gate = h .gate;
-    zero = refl;
-    bytes = e ∙ ap (over text 0) (text-part (reportOf (h .number) b) t (h .text));
-    count = text-length (reportOf (h .number) b) t (h .text);
-  };
-}
+module _ (least : ℕ) (P : List ℕ → Type 0) (text : List ℕ) where
+  pub text-short : length text < least → TextOut least P text 7 text 0
+  text-short h = record { refused = λ l. (refl, refl, refl); written = λ l. absurd (omega arith) }
 
-pub report-copies : (b text : List ℕ) (t : Text) → 192 ≤ length text → Reported b t → 0 + length (take (t .length) (t .bytes)) ≤ length text
-report-copies b text t l h = omega (arith, ap length (text-part (reportOf (h .number) b) t (h .text)), h .short)
+  text-written : (text' xs : List ℕ) (t : Text) (r len : ℕ) → least ≤ length text → P xs → t ≡ asText xs
+      → (r ≡ 0) × (text' ≡ over text 0 (take (t .length) (t .bytes))) × (len ≡ t .length) → TextOut least P text r text' len
+  text-written text' xs t r len l h is e = record {
+    refused = λ s. absurd (omega arith);
+    written = λ s. record { lines = xs; holds = h; zero = e .0; bytes = e .1 ∙ ap (over text 0) (text-part xs t is); count = e .2 ∙ text-length xs t is };
+  }
+
+  -- one result, where the lines are one
+  pub text-one : ((xs ys : List ℕ) → P xs → P ys → xs ≡ ys) → (r r' : ℕ) (t t' : List ℕ) (l l' : ℕ) → TextOut least P text r t l → TextOut least P text r' t' l' → (r ≡ r') × (t ≡ t') × (l ≡ l')
+  text-one one r r' t t' l l' h k =
+      elim (decLt (length text) least) [
+        | yes s ↦ (let x = h .refused s in let y = k .refused s in (x .0 ∙ sym (y .0), x .1 ∙ sym (y .1), x .2 ∙ sym (y .2)))
+        | no n ↦ lines-one (h .written (omega arith)) (k .written (omega arith))
+      ]
+    where
+      lines-one : Lines P text r t l → Lines P text r' t' l' → (r ≡ r') × (t ≡ t') × (l ≡ l')
+      lines-one x y =
+          let e = one (x .lines) (y .lines) (x .holds) (y .holds) in
+          (x .zero ∙ sym (y .zero), x .bytes ∙ ap (over text 0) e ∙ sym (y .bytes), x .count ∙ ap length e ∙ sym (y .count))
+
+text-room : (xs : List ℕ) (t : Text) (room : ℕ) → t ≡ asText xs → length xs ≤ room → length xs ≤ 192 → TextRoom t room
+text-room xs t room e l m = record { whole = text-fits xs t e; count = text-count xs t e; fits = omega (arith, text-length xs t e); few = omega (arith, text-length xs t e) }
+
+module _ (b : List ℕ) (t : Text) where
+  pub report-room : (room : ℕ) → 192 ≤ room → Reported b t → TextRoom t room
+  report-room room l h = text-room (reportOf (h .number) b) t room (h .text) (omega (arith, h .short)) (h .short)
+
+  pub broken-room : (room : ℕ) → 64 ≤ room → DiagnosisText b t → TextRoom t room
+  broken-room room l h = text-room (diagnosisLines (h .diagnosis)) t room (h .lines .text) (omega (arith, h .lines .short)) (omega (arith, h .lines .short))
+
+  module _ (text text' : List ℕ) (r len : ℕ) (e : (r ≡ 0) × (text' ≡ over text 0 (take (t .length) (t .bytes))) × (len ≡ t .length)) where
+    pub report-written : 192 ≤ length text → Reported b t → TextOut 192 (ReportLines b) text r text' len
+    report-written l h = text-written 192 (ReportLines b) text text' (reportOf (h .number) b) t r len l (record { number = h .number; gate = h .gate; is = refl }) (h .text) e
+
+    pub broken-written : 64 ≤ length text → DiagnosisText b t → TextOut 64 (BrokenLines b) text r text' len
+    broken-written l h = text-written 64 (BrokenLines b) text text' (diagnosisLines (h .diagnosis)) t r len l (record { diagnosis = h .diagnosis; diagnosed = h .diagnosed; is = refl }) (h .lines .text) e
+
+-- which rule is broken, arm by arm
+module _ (b : List ℕ) (d : Diagnosis) (h : Diagnosed b d) where
+  pub broken-found : (f : Fault) (rule kind place : ℕ) → d ≡ Found f → rule ≡ ruleOf f → kind ≡ placeKindOf f → place ≡ placeOf f → BrokenOut b 0 rule kind place
+  broken-found f rule kind place e x y z = record { answer = Found f; diagnosed = rw e at h; number = refl; broken = x; sort = y; place' = z }
+
+  pub broken-refused : (n : ℕ) → d ≡ Unexamined n → BrokenOut b n 0 0 0
+  broken-refused n e = record { answer = Unexamined n; diagnosed = rw e at h; number = refl; broken = refl; sort = refl; place' = refl }
 
 -- signed arguments, taken apart
 pub format-border : (b b' : List ℕ) (x y : ℤ) (z n : Amount) (l : Label) (r : ℕ) → z ≡ amountOf x → n ≡ amountOf y → Formatted b z n l r b' → Formatted b (amountOf x) (amountOf y) l r b'
@@ -146,15 +185,18 @@ space-one b r r' s s' u u' h k =
     let e : h .answer ≡ k .answer = spaced-one b (h .answer) (k .answer) (h .spaced) (k .spaced) in
     (h .number ∙ ap numberOf e ∙ sym (k .number), h .all ∙ ap sectorsValue e ∙ sym (k .all), h .taken ∙ ap usedValue e ∙ sym (k .taken))
 
-lines-one : (b text : List ℕ) (r r' : ℕ) (t t' : List ℕ) (l l' : ℕ) → Lines b text r t l → Lines b text r' t' l' → (r ≡ r') × (t ≡ t') × (l ≡ l')
-lines-one b text r r' t t' l l' h k =
-    let e : h .number ≡ k .number = gate-one (bookTests b) (h .number) (k .number) (h .gate) (k .gate) in
-    let x : reportOf (h .number) b ≡ reportOf (k .number) b = ap (λ (n : ℕ). reportOf n b) e in
-    (h .zero ∙ sym (k .zero), h .bytes ∙ ap (over text 0) x ∙ sym (k .bytes), h .count ∙ ap length x ∙ sym (k .count))
+-- the report's, and which rule is broken
+pub report-one : (b xs ys : List ℕ) → ReportLines b xs → ReportLines b ys → xs ≡ ys
+report-one b xs ys h k = h .is ∙ ap (λ (n : ℕ). reportOf n b) (gate-one (bookTests b) (h .number) (k .number) (h .gate) (k .gate)) ∙ sym (k .is)
 
-pub report-one : (b text : List ℕ) (r r' : ℕ) (t t' : List ℕ) (l l' : ℕ) → ReportOut b text r t l → ReportOut b text r' t' l' → (r ≡ r') × (t ≡ t') × (l ≡ l')
-report-one b text r r' t t' l l' h k =
-    elim (decLt (length text) 192) [
-      | yes s ↦ (let x = h .refused s in let y = k .refused s in (x .0 ∙ sym (y .0), x .1 ∙ sym (y .1), x .2 ∙ sym (y .2)))
-      | no n ↦ lines-one b text r r' t t' l l' (h .written (omega arith)) (k .written (omega arith))
-    ]
+pub broken-text-one : (b xs ys : List ℕ) → BrokenLines b xs → BrokenLines b ys → xs ≡ ys
+broken-text-one b xs ys h k = h .is ∙ ap diagnosisLines (diagnosed-one b (h .diagnosis) (k .diagnosis) (h .diagnosed) (k .diagnosed)) ∙ sym (k .is)
+
+pub broken-one : (b : List ℕ) (r r' u u' v v' w w' : ℕ) → BrokenOut b r u v w → BrokenOut b r' u' v' w' → (r ≡ r') × (u ≡ u') × (v ≡ v') × (w ≡ w')
+broken-one b r r' u u' v v' w w' h k =
+    let e = diagnosed-one b (h .answer) (k .answer) (h .diagnosed) (k .diagnosed) in (
+      h .number ∙ ap diagnosisNumber e ∙ sym (k .number),
+      h .broken ∙ ap ruleValue e ∙ sym (k .broken),
+      h .sort ∙ ap kindValue e ∙ sym (k .sort),
+      h .place' ∙ ap placeValue e ∙ sym (k .place'),
+    )

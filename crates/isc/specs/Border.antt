@@ -4,19 +4,22 @@ use mathlib.Core.Bool.{Bool, not}
 use Prim.Native.Nat.{ℕ, _≤_, _<_}
 use mathlib.Core.List.{List}
 use lib.Dec.{eqb}
-use lib.ListN.{length}
+use lib.ListN.{length, take}
 use Rattle.field.specs.Parts.{over}
 use Rattle.tables.specs.Gates.{Gate}
 use Rattle.tables.specs.Books.{bookTests}
 use Rattle.requests.specs.declared.answer.Answer.{Answer}
+use Rattle.requests.specs.declared.broken_rule.Diagnosis.{Diagnosis}
 use Rattle.requests.specs.declared.create.Created.{Created}
 use Rattle.requests.specs.declared.locate.Located.{Located}
+use Rattle.requests.specs.declared.report.Text.{Text}
 use Rattle.requests.specs.declared.space.Space.{Space}
 use Rattle.requests.specs.Answers.{numberOf as answerNumber, valueOf}
 use Rattle.requests.specs.Create.{numberOf as createdNumber, idValue}
 use Rattle.requests.specs.Locate.{numberOf as locatedNumber, sectorValue, Locates}
 use Rattle.requests.specs.Space.{numberOf, sectorsValue, usedValue, Spaced}
 use Rattle.requests.specs.Report.{reportOf}
+use Rattle.requests.specs.Diagnosis.{numberOf as diagnosisNumber, ruleValue, kindValue, placeValue, Diagnosed, diagnosisLines}
 
 -- "`exchange` is 0 for no and anything else for yes"
 abbrev pub asked : ℕ → Bool
@@ -51,15 +54,44 @@ pub record SpaceOut (b : List ℕ) (r sectors used : ℕ) : Type 0 where
   pub all : sectors ≡ sectorsValue answer
   pub taken : used ≡ usedValue answer
 
--- the report's lines stand at the start of the text, and their length is answered
-pub record Lines (b text : List ℕ) (r : ℕ) (text' : List ℕ) (len : ℕ) : Type 0 where
+-- which rule is broken: the number, the rule, the kind of place and the place, zeros on a refusal
+pub record BrokenOut (b : List ℕ) (r rule kind place : ℕ) : Type 0 where
+  pub answer : Diagnosis
+  pub diagnosed : Diagnosed b answer
+  pub number : r ≡ diagnosisNumber answer
+  pub broken : rule ≡ ruleValue answer
+  pub sort : kind ≡ kindValue answer
+  pub place' : place ≡ placeValue answer
+
+-- ---- texts
+
+-- lines of which P holds stand at the start of the text, and their length is answered
+pub record Lines (P : List ℕ → Type 0) (text : List ℕ) (r : ℕ) (text' : List ℕ) (len : ℕ) : Type 0 where
+  pub lines : List ℕ
+  pub holds : P lines
+  pub zero : r ≡ 0
+  pub bytes : text' ≡ over text 0 lines
+  pub count : len ≡ length lines
+
+-- a text shorter than `least` bytes is refused as 7, with nothing written
+pub record TextOut (least : ℕ) (P : List ℕ → Type 0) (text : List ℕ) (r : ℕ) (text' : List ℕ) (len : ℕ) : Type 0 where
+  pub refused : length text < least → (r ≡ 7) × (text' ≡ text) × (len ≡ 0)
+  pub written : least ≤ length text → Lines P text r text' len
+
+-- the first bytes of a text by value, which fit into so many
+pub record TextRoom (t : Text) (room : ℕ) : Type 0 where
+  pub whole : t .length ≤ length (t .bytes)
+  pub count : t .length ≡ length (take (t .length) (t .bytes))
+  pub fits : t .length ≤ room
+  pub few : t .length ≤ 192
+
+-- the report of the books b, and which rule they break
+pub record ReportLines (b xs : List ℕ) : Type 0 where
   pub number : ℕ
   pub gate : Gate (bookTests b) number
-  pub zero : r ≡ 0
-  pub bytes : text' ≡ over text 0 (reportOf number b)
-  pub count : len ≡ length (reportOf number b)
+  pub is : xs ≡ reportOf number b
 
--- report: a text shorter than 192 bytes is refused as 7, with nothing written
-pub record ReportOut (b text : List ℕ) (r : ℕ) (text' : List ℕ) (len : ℕ) : Type 0 where
-  pub refused : length text < 192 → (r ≡ 7) × (text' ≡ text) × (len ≡ 0)
-  pub written : 192 ≤ length text → Lines b text r text' len
+pub record BrokenLines (b xs : List ℕ) : Type 0 where
+  pub diagnosis : Diagnosis
+  pub diagnosed : Diagnosed b diagnosis
+  pub is : xs ≡ diagnosisLines diagnosis

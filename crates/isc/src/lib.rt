@@ -1,8 +1,14 @@
 // The C interface: each function takes its numbers and slices, calls one request, and hands back the number and the values.
+use examination::fault::place_kind_of;
+use examination::fault::place_of;
+use examination::fault::rule_of;
 use field::parts::copy;
 use requests::actual_delete::actual_delete;
 use requests::amount::amount_of;
 use requests::answer::Answer;
+use requests::broken_rule::Diagnosis;
+use requests::broken_rule::broken_rule;
+use requests::broken_text::broken_text;
 use requests::create::Created;
 use requests::create_fixed::create_fixed;
 use requests::create_variable::create_variable;
@@ -15,6 +21,7 @@ use requests::locate::locate;
 use requests::mount::mount;
 use requests::read::read;
 use requests::recover::recover;
+use requests::report::Text;
 use requests::report::report;
 use requests::search::search;
 use requests::set_protection::set_protection;
@@ -27,6 +34,8 @@ use requests::temporary_delete::temporary_delete;
 use requests::write::write;
 use tables::counts::chosen_types;
 ghost use mathlib.Core.Path.{_≡_};
+ghost use lib.ListN.{length, take};
+ghost use Rattle.field.specs.Parts.{over};
 ghost use Rattle.tables.specs.Counts.{chosenTypes};
 ghost use Rattle.tables.specs.Gates.{Gate};
 ghost use Rattle.requests.specs.Amounts.{amountOf};
@@ -42,7 +51,7 @@ ghost use Rattle.requests.specs.Search.{Searched};
 ghost use Rattle.requests.specs.Show.{showTests, ShownAt};
 ghost use Rattle.requests.specs.State.{Removed, Recovered, Protected};
 ghost use Rattle.requests.specs.Write.{Wrote};
-ghost use Rattle.isc.specs.Border.{asked, AnswerOut, CreateOut, LocateOut, SpaceOut, ReportOut};
+ghost use Rattle.isc.specs.Border.{asked, AnswerOut, CreateOut, LocateOut, SpaceOut, BrokenOut, TextRoom, TextOut, ReportLines, BrokenLines};
 
 #[no_mangle]
 pub extern "C" fn isc_format(
@@ -227,20 +236,66 @@ pub extern "C" fn isc_space(books: &[u8], sectors: &mut u32, used: &mut u32) -> 
     }
 }
 
+// Hands back a text that has room.
+fn hand_back_text(t: Text, text: &mut [u8], count: &mut u32) -> u32
+    requires { ⌜ TextRoom t (length (now text)) ⌝ }
+    ensures { λ r. ⌜ (r ≡ 0) × (now (text .exit) ≡ over (now (text .entry)) 0 (take (t .length) (t .bytes))) × (now (count .exit) ≡ t .length) ⌝ }
+{
+    let n = t.length;
+    let bytes = t.bytes;
+    copy(text, 0, &bytes[..n]);
+    *count = n as u32;
+    0
+}
+
 #[no_mangle]
 pub extern "C" fn isc_report(books: &[u8], text: &mut [u8], length: &mut u32) -> u32
-    ensures { λ r. ⌜ ReportOut (now (books .entry)) (now (text .entry)) r (now (text .exit)) (now (length .exit)) ⌝ }
+    ensures { λ r. ⌜ TextOut 192 (ReportLines (now (books .entry))) (now (text .entry)) r (now (text .exit)) (now (length .exit)) ⌝ }
 {
     if text.len() < 192 {
         *length = 0;
         return 7;
     }
     let t = report(books);
-    let n = t.length;
-    let bytes = t.bytes;
-    copy(text, 0, &bytes[..n]);
-    *length = n as u32;
-    0
+    hand_back_text(t, text, length)
+}
+
+#[no_mangle]
+pub extern "C" fn isc_broken_rule(
+    books: &[u8],
+    rule: &mut u32,
+    kind: &mut u32,
+    place: &mut u32,
+) -> u32
+    ensures { λ r. ⌜ BrokenOut (now (books .entry)) r (now (rule .exit)) (now (kind .exit)) (now (place .exit)) ⌝ }
+{
+    let found = broken_rule(books);
+    match found {
+        Diagnosis::Found(f) => {
+            *rule = rule_of(f);
+            *kind = place_kind_of(f);
+            *place = place_of(f);
+            0
+        }
+        Diagnosis::Refused(n) => {
+            *rule = 0;
+            *kind = 0;
+            *place = 0;
+            n
+        }
+    }
+}
+
+#[no_mangle]
+pub extern "C" fn isc_broken_text(books: &[u8], text: &mut [u8], length: &mut u32) -> u32
+    ensures { λ r. ⌜ TextOut 64 (BrokenLines (now (books .entry))) (now (text .entry)) r (now (text .exit)) (now (length .exit)) ⌝ }
+{
+    if text.len() < 64 {
+        *length = 0;
+        return 7;
+    }
+    let t = broken_text(books);
+    hand_back_text(t, text, length)
 }
 
 #[no_mangle]

@@ -32,3 +32,4 @@ pub mod RoomNumberLaws
 pub mod SettleLaws
 pub mod SpaceLaws
 pub mod WriteRoom
+pub mod DiagnosisLaws

@@ -27,8 +27,8 @@ use Rattle.requests.proofs.TextLaws.{line-length, decimal-few}
 use Rattle.requests.proofs.RequestLaws.{good-few}
 
 -- a line of a number below 10 ^ (k + 1)
-short : (name : List ℕ) (k n : ℕ) → n < 10 ^ (k + 1) → length (lineOf name n) ≤ length name + k + 2
-short name k n h = omega (arith, line-length name n, decimal-few k n h)
+pub line-short : (name : List ℕ) (k n : ℕ) → n < 10 ^ (k + 1) → length (lineOf name n) ≤ length name + k + 2
+line-short name k n h = omega (arith, line-length name n, decimal-few k n h)
 
 three : (a b c : List ℕ) → length (a ++ (b ++ c)) ≡ length a + (length b + length c)
 three a b c = omega (arith, length-append a (b ++ c), length-append b c)
@@ -40,17 +40,17 @@ module _ (f : Figures) (s : Small f) where
   sizes-short : length (sizeLines f) ≤ 51
   unfolding sizeLines
   sizes-short =
-      omega (arith, four (zonesLine f) (sectorsLine f) (usedLine f) (indexesLine f), short (122 ∷ 111 ∷ 110 ∷ 101 ∷ 115 ∷ 61 ∷ []) 2 (f .zones) (omega (arith, s .zones)), short (115 ∷ 101 ∷ 99 ∷ 116 ∷ 111 ∷ 114 ∷ 115 ∷ 61 ∷ []) 5 (f .sectors) (omega (arith, s .sectors)), short (117 ∷ 115 ∷ 101 ∷ 100 ∷ 61 ∷ []) 5 (f .used) (omega (arith, s .used)), short (105 ∷ 110 ∷ 100 ∷ 101 ∷ 120 ∷ 101 ∷ 115 ∷ 61 ∷ []) 3 (f .indexes) (omega (arith, s .indexes)))
+      omega (arith, four (zonesLine f) (sectorsLine f) (usedLine f) (indexesLine f), line-short (122 ∷ 111 ∷ 110 ∷ 101 ∷ 115 ∷ 61 ∷ []) 2 (f .zones) (omega (arith, s .zones)), line-short (115 ∷ 101 ∷ 99 ∷ 116 ∷ 111 ∷ 114 ∷ 115 ∷ 61 ∷ []) 5 (f .sectors) (omega (arith, s .sectors)), line-short (117 ∷ 115 ∷ 101 ∷ 100 ∷ 61 ∷ []) 5 (f .used) (omega (arith, s .used)), line-short (105 ∷ 110 ∷ 100 ∷ 101 ∷ 120 ∷ 101 ∷ 115 ∷ 61 ∷ []) 3 (f .indexes) (omega (arith, s .indexes)))
 
   files-short : length (fileLines f) ≤ 55
   unfolding fileLines
   files-short =
-      omega (arith, four (freeLine f) (activeLine f) (deletedLine f) (systemLine f), short (102 ∷ 114 ∷ 101 ∷ 101 ∷ 95 ∷ 105 ∷ 110 ∷ 100 ∷ 101 ∷ 120 ∷ 101 ∷ 115 ∷ 61 ∷ []) 3 (f .free) (omega (arith, s .free)), short (97 ∷ 99 ∷ 116 ∷ 105 ∷ 118 ∷ 101 ∷ 61 ∷ []) 3 (f .active) (omega (arith, s .active)), short (100 ∷ 101 ∷ 108 ∷ 101 ∷ 116 ∷ 101 ∷ 100 ∷ 61 ∷ []) 3 (f .deleted) (omega (arith, s .deleted)), short (115 ∷ 121 ∷ 115 ∷ 116 ∷ 101 ∷ 109 ∷ 61 ∷ []) 3 (f .system) (omega (arith, s .system)))
+      omega (arith, four (freeLine f) (activeLine f) (deletedLine f) (systemLine f), line-short (102 ∷ 114 ∷ 101 ∷ 101 ∷ 95 ∷ 105 ∷ 110 ∷ 100 ∷ 101 ∷ 120 ∷ 101 ∷ 115 ∷ 61 ∷ []) 3 (f .free) (omega (arith, s .free)), line-short (97 ∷ 99 ∷ 116 ∷ 105 ∷ 118 ∷ 101 ∷ 61 ∷ []) 3 (f .active) (omega (arith, s .active)), line-short (100 ∷ 101 ∷ 108 ∷ 101 ∷ 116 ∷ 101 ∷ 100 ∷ 61 ∷ []) 3 (f .deleted) (omega (arith, s .deleted)), line-short (115 ∷ 121 ∷ 115 ∷ 116 ∷ 101 ∷ 109 ∷ 61 ∷ []) 3 (f .system) (omega (arith, s .system)))
 
   state-short : length (stateLines f) ≤ 42
   unfolding stateLines
   state-short =
-      omega (arith, three (directoryLine f) (openLine f) (mountedLine f), short (100 ∷ 105 ∷ 114 ∷ 101 ∷ 99 ∷ 116 ∷ 111 ∷ 114 ∷ 121 ∷ 61 ∷ []) 3 (f .directory) (omega (arith, s .directory)), short (111 ∷ 112 ∷ 101 ∷ 110 ∷ 95 ∷ 122 ∷ 111 ∷ 110 ∷ 101 ∷ 115 ∷ 61 ∷ []) 2 (f .openzones) (omega (arith, s .openzones)), short (109 ∷ 111 ∷ 117 ∷ 110 ∷ 116 ∷ 101 ∷ 100 ∷ 61 ∷ []) 0 (f .mounted) (omega (arith, s .mounted)))
+      omega (arith, three (directoryLine f) (openLine f) (mountedLine f), line-short (100 ∷ 105 ∷ 114 ∷ 101 ∷ 99 ∷ 116 ∷ 111 ∷ 114 ∷ 121 ∷ 61 ∷ []) 3 (f .directory) (omega (arith, s .directory)), line-short (111 ∷ 112 ∷ 101 ∷ 110 ∷ 95 ∷ 122 ∷ 111 ∷ 110 ∷ 101 ∷ 115 ∷ 61 ∷ []) 2 (f .openzones) (omega (arith, s .openzones)), line-short (109 ∷ 111 ∷ 117 ∷ 110 ∷ 116 ∷ 101 ∷ 100 ∷ 61 ∷ []) 0 (f .mounted) (omega (arith, s .mounted)))
 
   pub lines-short : length (linesOf f) ≤ 148
   unfolding linesOf
@@ -58,7 +58,7 @@ module _ (f : Figures) (s : Small f) where
 
 pub refused-short : (n : ℕ) → n < 4294967296 → length (refusedLine n) ≤ 19
 unfolding refusedLine
-refused-short n h = short _ 9 n (omega arith)
+refused-short n h = line-short _ 9 n (omega arith)
 
 -- nulls after the text
 drop-nulls : (k n : ℕ) → k ≤ n → _≡_ {A = List ℕ} (drop k (replicate n 0)) (replicate (n - k) 0)
@@ -102,7 +102,7 @@ good-small b p f g e =
 -- ---- the report's two ways out, and one result
 
 -- the books' own numbers
-books-few : (b : List ℕ) (n : ℕ) → Gate (bookTests b) n → n ≤ 4
+pub books-few : (b : List ℕ) (n : ℕ) → Gate (bookTests b) n → n ≤ 4
 unfolding Gate
 books-few b n (inr h) = omega (arith, h .1)
 books-few b n (inl (_, inr h)) = omega (arith, h .1)
@@ -133,14 +133,18 @@ pub text-part : (xs : List ℕ) (t : Text) → t ≡ asText xs → take (t .leng
 unfolding asText
 text-part xs t e = ap (λ (x : Text). take (x .length) (x .bytes)) e ∙ take-at xs (replicate (192 - length xs) 0) (length xs) refl
 
-pub report-room : (b : List ℕ) (t : Text) → Reported b t → t .length ≤ 192
-report-room b t h = omega (arith, text-length (reportOf (h .number) b) t (h .text), h .short)
+-- and fits into its bytes
+module _ (xs : List ℕ) (t : Text) (e : t ≡ asText xs) where
+  pub text-fits : t .length ≤ length (t .bytes)
+  unfolding asText
+  text-fits = omega (arith, text-length xs t e, ap (λ (x : Text). length (x .bytes)) e, length-append xs (replicate (192 - length xs) 0))
 
-pub report-fits : (b : List ℕ) (t : Text) → Reported b t → t .length ≤ length (t .bytes)
-unfolding asText
-report-fits b t h =
-    let xs : List ℕ = reportOf (h .number) b in
-    omega (arith, text-length xs t (h .text), ap (λ (x : Text). length (x .bytes)) (h .text), length-append xs (replicate (192 - length xs) 0))
+  pub text-count : t .length ≡ length (take (t .length) (t .bytes))
+  text-count = text-length xs t e ∙ sym (ap length (text-part xs t e))
 
-pub report-count : (b : List ℕ) (t : Text) → Reported b t → t .length ≡ length (take (t .length) (t .bytes))
-report-count b t h = text-length (reportOf (h .number) b) t (h .text) ∙ sym (ap length (text-part (reportOf (h .number) b) t (h .text)))
+module _ (b : List ℕ) (t : Text) (h : Reported b t) where
+  pub report-fits : t .length ≤ length (t .bytes)
+  report-fits = text-fits (reportOf (h .number) b) t (h .text)
+
+  pub report-count : t .length ≡ length (take (t .length) (t .bytes))
+  report-count = text-count (reportOf (h .number) b) t (h .text)

@@ -6,6 +6,7 @@ pub mod Format
 pub mod Mount
 pub mod Space
 pub mod Report
+pub mod Diagnosis
 pub mod Create
 pub mod Named
 pub mod Grow

@@ -1,4 +1,4 @@
--- Text of the report: numbers in decimal, lines of a name and a number.
+-- Text of the report and of a broken rule: numbers in decimal, lines of a name and a number.
 use mathlib.Core.Path.{_≡_}
 use mathlib.Core.Bool.{cond}
 use Prim.Native.Nat.{ℕ, zero, suc, _+_, _/_, _%_, _≤_}

@@ -5,6 +5,8 @@ pub mod amount;
 pub mod answer;
 mod argument;
 mod body;
+pub mod broken_rule;
+pub mod broken_text;
 pub mod create;
 pub mod create_fixed;
 pub mod create_variable;

@@ -1,5 +1,6 @@
 // Report: the books in eleven lines of text, or the number that refuses them.
 use crate::text::put_line;
+use crate::text::refused_text;
 use crate::used::used_sectors;
 use examination::check::Checked;
 use examination::check::check;
@@ -12,7 +13,7 @@ ghost use Prim.Native.Nat.{_+_, _≤_};
 ghost use lib.ListN.{length};
 ghost use Rattle.tables.specs.Places.{Layout};
 ghost use Rattle.requests.specs.Text.{Put};
-ghost use Rattle.requests.specs.Report.{figuresOf, sizeLines, fileLines, stateLines, linesOf, refusedLine, Small, Reported, asText};
+ghost use Rattle.requests.specs.Report.{figuresOf, sizeLines, fileLines, stateLines, linesOf, Small, Reported, asText};
 
 // What the report tells.
 pub struct Figures {
@@ -98,14 +99,6 @@ fn figures_text(f: Figures) -> Text
 {
     let mut bytes = [0u8; 192];
     let length = write_all(&mut bytes, f);
-    Text { bytes, length }
-}
-
-fn refused_text(n: u32) -> Text
-    ensures { λ r. ⌜ r ≡ asText (refusedLine n) ⌝ }
-{
-    let mut bytes = [0u8; 192];
-    let length = put_line(&mut bytes, 0, b"refused=", n);
     Text { bytes, length }
 }
 

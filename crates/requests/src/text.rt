@@ -1,9 +1,11 @@
-// Text of the report: numbers in decimal, lines of a name and a number, written into a lent slice.
+// Text of the report and of a broken rule: numbers in decimal, lines of a name and a number, written into a lent slice.
+use crate::report::Text;
 use field::parts::copy;
 ghost use mathlib.Core.Path.{_≡_};
 ghost use Prim.Native.Nat.{_+_, _%_, _≤_};
 ghost use lib.ListN.{length};
 ghost use Rattle.requests.specs.Text.{decimal, lineOf, Holding, Put};
+ghost use Rattle.requests.specs.Report.{refusedLine, asText};
 
 // Ten bytes, the digits of a number at their end, from `at` on.
 pub struct Digits {
@@ -45,7 +47,7 @@ fn put_number(s: &mut [u8], at: usize, n: u32) -> usize
 }
 
 // Writes a name from `at` on; answers where it ends.
-fn put_text(s: &mut [u8], at: usize, name: &[u8]) -> usize
+pub fn put_text(s: &mut [u8], at: usize, name: &[u8]) -> usize
     requires { ⌜ at + length (now name) ≤ length (now s) ⌝ }
     ensures { λ r. ⌜ Put (now (s .entry)) at (now (name .entry)) (now (s .exit)) r ⌝ }
 {
@@ -61,4 +63,13 @@ pub fn put_line(s: &mut [u8], at: usize, name: &[u8], n: u32) -> usize
     let a = put_text(s, at, name);
     let e = put_number(s, a, n);
     put_text(s, e, b"\n")
+}
+
+// The one line of a refusal.
+pub fn refused_text(n: u32) -> Text
+    ensures { λ r. ⌜ r ≡ asText (refusedLine n) ⌝ }
+{
+    let mut bytes = [0u8; 192];
+    let length = put_line(&mut bytes, 0, b"refused=", n);
+    Text { bytes, length }
 }

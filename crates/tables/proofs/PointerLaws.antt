@@ -63,21 +63,21 @@ module _ (v : View) (s : ℕ) where
   unfolding overOf
   over-at i j u = omega (arith, cov-in _ _ s (u .from) (u .to), sum-part (slotsOf i (v .table i)) j (λ j. cov (startOf i (v .table i) j) (countOf i (v .table i) j) s) (u .slot))
 
-  under-counts : (i j : ℕ) → Under v i j s → 0 < pointersOver v s
+  pub under-counts : (i j : ℕ) → Under v i j s → 0 < pointersOver v s
   unfolding pointersOver tally
   under-counts i j u =
       let a : i - 1 + 1 ≡ i = omega (arith, u .low) in
       omega (arith, over-at i j u, rw a at (sum-part (v .indexes) (i - 1) (λ n. overOf (n + 1) (v .table (n + 1)) s) (omega (arith, u .low, u .high))))
 
   -- a set sector is under a pointer, and no sector is under two
-  under-some : 0 < pointersOver v s → (i : ℕ) × (j : ℕ) × Under v i j s
+  pub under-some : 0 < pointersOver v s → (i : ℕ) × (j : ℕ) × Under v i j s
   unfolding overOf pointersOver tally
   under-some h =
       let o = sum-some (v .indexes) _ h in
       let p = sum-some (slotsOf (o .0 + 1) (v .table (o .0 + 1))) _ (o .2) in
       (o .0 + 1, p .0, ⊎-elim (λ c. record { low = omega arith; high = omega (arith, o .1); slot = p .1; from = c .low; to = c .high }) (λ z. absurd (omega (arith, p .2))) (cov-cases _ _ s))
 
-  under-one : pointersOver v s ≤ 1 → (i j : ℕ) → Under v i j s → (k l : ℕ) → Under v k l s → (i ≡ k) × (j ≡ l)
+  pub under-one : pointersOver v s ≤ 1 → (i j : ℕ) → Under v i j s → (k l : ℕ) → Under v k l s → (i ≡ k) × (j ≡ l)
   unfolding overOf pointersOver tally
   under-one h i j u k l w =
       let f : ℕ → ℕ = λ n. overOf (n + 1) (v .table (n + 1)) s in
@@ -165,7 +165,7 @@ module _ (v : View) (s : ℕ) (one : (i j k l : ℕ) → Under v i j s → Under
   unfolding overOf
   over-place i lo hi h = let p = sum-some (slotsOf i (v .table i)) _ h in (p .0, at-slot i (p .0) lo hi (p .1) (p .2))
 
-  over-once : pointersOver v s ≤ 1
+  pub over-once : pointersOver v s ≤ 1
   unfolding pointersOver tally
   over-once =
       sum-once (v .indexes) (λ n. overOf (n + 1) (v .table (n + 1)) s) (λ n l. over-few (n + 1) (omega arith) (omega arith)) (λ n l m k hn hm.

@@ -1,7 +1,6 @@
 // Blocks: the sectors that a zone of a type gives out together.
 use crate::sizes::ZONE;
 ghost use mathlib.Core.Path.{_≡_};
-ghost use Prim.Native.Nat.{_*_, _/_};
 ghost use Rattle.field.specs.Says.{Says};
 ghost use Rattle.tables.specs.Blocks.{ZoneType, DataType, blockOf, perZone, Block};
 

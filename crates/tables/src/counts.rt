@@ -2,7 +2,7 @@
 use crate::blocks::block_sectors;
 use crate::sizes::SECTOR;
 ghost use mathlib.Core.Path.{_≡_};
-ghost use Prim.Native.Nat.{_*_, _≤_, _<_};
+ghost use Prim.Native.Nat.{_≤_, _<_};
 ghost use Rattle.tables.specs.Blocks.{DataType};
 ghost use Rattle.tables.specs.Counts.{typesOf, chosenTypes, weightOf, blockBytes, Shared, Countable, countsOf};
 

@@ -10,7 +10,7 @@ use field::numbers::put_u32;
 use field::parts::copy;
 use field::parts::fill;
 ghost use mathlib.Core.Path.{_≡_};
-ghost use Prim.Native.Nat.{_+_, _*_, _≤_, _<_};
+ghost use Prim.Native.Nat.{_+_, _≤_, _<_};
 ghost use lib.ListN.{length};
 ghost use Rattle.field.specs.Numbers.{u32At};
 ghost use Rattle.tables.specs.Places.{Layout};

@@ -1,27 +1,7 @@
-use Rattle.examination.proofs.ZoneLaws.{tails-stop, tails-says}
+use Rattle.examination.proofs.TailLaws.{tails-stop, tails-says}
 use borrow.Author.Needs.{needs}
 use Rattle.examination.proofs.tails.tails_null.Statement.{statement}
 use Rattle.examination.proofs.tails.tails_null.Tie as tie
 
 pub tails-null-spec : {M : Type 1} → statement M
-tails-null-spec =
-    tie.close
-    (tie.spec
-    (λ c. search needs)
-    (λ c. search needs)
-    (λ c. search needs)
-    (λ c. search needs)
-    (λ c. search needs)
-    (λ c. search needs)
-    (λ c. search needs)
-    (λ c. search needs)
-    (λ c κs. search needs)
-    (λ c. search tails-stop)
-    (λ c. search needs)
-    (λ c. search needs)
-    (λ c. search needs)
-    (λ c. search needs)
-    (λ c. search needs)
-    (λ c. search needs)
-    (λ c κs. search needs)
-    (λ c. search tails-says))
+tails-null-spec = tie.close (tie.spec (λ c κs. search needs) (λ c. search tails-stop) (λ c κs. search needs) (λ c. search tails-says))

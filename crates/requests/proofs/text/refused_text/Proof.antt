@@ -2,8 +2,8 @@ use Rattle.requests.specs.Report.{refusedLine}
 use Rattle.requests.proofs.ReportLaws.{refused-short, text-made}
 use native.Mathlib.Omega.{arith}
 use borrow.Author.Needs.{needs}
-use Rattle.requests.proofs.report.refused_text.Statement.{statement}
-use Rattle.requests.proofs.report.refused_text.Tie as tie
+use Rattle.requests.proofs.text.refused_text.Statement.{statement}
+use Rattle.requests.proofs.text.refused_text.Tie as tie
 
 put-line-requires : tie.Need-put-line-requires
 unfolding refusedLine

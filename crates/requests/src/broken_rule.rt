@@ -1,0 +1,21 @@
+// Which rule the card breaks: the lowest rule that is broken, and in it the lowest place. The books need not be mounted.
+use examination::broken::lowest_fault;
+use examination::check::Placing;
+use examination::check::find_places;
+use examination::fault::Fault;
+ghost use Rattle.requests.specs.Diagnosis.{Diagnosed};
+
+pub enum Diagnosis {
+    Found(Fault),
+    Refused(u32),
+}
+
+pub fn broken_rule(b: &[u8]) -> Diagnosis
+    ensures { λ r. ⌜ Diagnosed (now (b .entry)) r ⌝ }
+{
+    let found = find_places(b);
+    match found {
+        Placing::Refused(n) => Diagnosis::Refused(n),
+        Placing::At(p) => Diagnosis::Found(lowest_fault(b, p)),
+    }
+}

@@ -1,0 +1,10 @@
+/* Which book rule tables break, in words. */
+#ifndef CARD_RULE_H
+#define CARD_RULE_H
+
+#include "isc.h"
+
+/* A line on the lowest rule that the books break and its lowest place; none where the library finds no broken rule. */
+void rule_say(const uint8_t *books, size_t books_len);
+
+#endif

@@ -18,8 +18,9 @@
    9999), month, day, hour, minute. A slice of another length is refused as 7, like a date that is not valid.
 
    What it needs: memcpy and memset, no other function; no heap, no operating system. Stack: up to 40 KiB a
-   call (format 120 bytes, the creates 37 and 40 KiB, all others 37 KiB). Re-entrant: there is no state, so
-   calls may run at once as long as they do not lend the same buffers, where one of them may write them.
+   call (format 120 bytes, the creates 37 and 40 KiB, all others 37 KiB), but 49 KiB for the two that say
+   which rule is broken. Re-entrant: there is no state, so calls may run at once as long as they do not lend
+   the same buffers, where one of them may write them.
    C99 or later, C++11 or later; the archive is for x86-64. */
 #ifndef ISC_H
 #define ISC_H

@@ -3,7 +3,7 @@ use mathlib.Core.Path.{_≡_, refl}
 use mathlib.Core.Logic.{inl, inr, _≢_}
 use mathlib.Core.Bool.{Bool, true, false, not}
 use mathlib.Core.List.{List, []}
-use Prim.Native.Nat.{ℕ, _+_, _≤_}
+use Prim.Native.Nat.{ℕ, _+_, _-_, _*_, _≤_}
 use native.Mathlib.Omega.{arith}
 use lib.ListN.{length}
 use Rattle.field.specs.Says.{Says}
@@ -15,7 +15,7 @@ use Rattle.examination.specs.declared.check.Placing.{Placing}
 use Rattle.examination.specs.declared.check.Placing.the-variants.{At, Refused as Unplaced}
 use Rattle.examination.specs.declared.check.Checked.the-variants.{Refused}
 use Rattle.tables.specs.Each.{Each}
-use Rattle.examination.specs.Findings.{Finds, holdsAt}
+use Rattle.examination.specs.Findings.{Finds, Seeks, holdsAt}
 use Rattle.tables.specs.Places.{placesOf, Layout}
 use Rattle.tables.specs.Views.{viewOf}
 use Rattle.tables.specs.Rules.R1.{Stand, Tails}
@@ -28,11 +28,13 @@ use Rattle.tables.specs.Rules.R7.{R7}
 use Rattle.tables.specs.Rules.R8.{FileLaw}
 use Rattle.tables.specs.Rules.R9.{R9}
 use Rattle.tables.specs.Lawful.{Lawful}
+use Rattle.examination.specs.Rulings.{SectorLaw}
 use Rattle.examination.specs.Halves.{TablesHold, FilesHold}
 use Rattle.tables.specs.Gates.{Gate}
 use Rattle.tables.specs.Books.{Sized, Marked, Limits, placeTests, Good}
 use Rattle.examination.specs.Examined.{PlacedAt, PlacesFound, Examined}
 use Rattle.tables.proofs.PlaceLaws.{stand-layout}
+use Rattle.examination.proofs.SectorLaws.{R7-each, each-R7}
 use Rattle.tables.proofs.GateLaws.{gate-fails, gate-stop, gate-skip}
 
 -- a finding says whether the rule holds at every place
@@ -81,16 +83,19 @@ module _ (p : Places) (b : List ℕ) where
   pub r6-holds : (f : Finding) (r : Bool) → Finds (PointerLaw (viewOf p b)) 1 (p .indexes + 1) f → r ≡ holdsAt f → not r ≡ false → R6 (viewOf p b)
   r6-holds f r h q e = passed r (finds-says (PointerLaw (viewOf p b)) 1 (p .indexes + 1) f r h q) e
 
-  pub no-r7 : (r : Bool) → Says r (R7 (viewOf p b)) → not r ≡ true → FilesHold p b → ⊥
-  no-r7 r s e t = refused r s e (t .r7)
+  r7-says : (f : Finding) (r : Bool) → Seeks false (SectorLaw (viewOf p b)) 1024 (1024 * (p .zones - 1)) f → r ≡ holdsAt f → Says r (R7 (viewOf p b))
+  r7-says f r h q = rw q (says-map (holdsAt f) (each-R7 (viewOf p b)) (R7-each (viewOf p b)) h)
+
+  pub no-r7 : (f : Finding) (r : Bool) → Seeks false (SectorLaw (viewOf p b)) 1024 (1024 * (p .zones - 1)) f → r ≡ holdsAt f → not r ≡ true → FilesHold p b → ⊥
+  no-r7 f r h q e t = refused r (r7-says f r h q) e (t .r7)
 
   pub no-r8 : (f : Finding) (r : Bool) → Finds (FileLaw (viewOf p b)) 1 (p .indexes + 1) f → r ≡ holdsAt f → not r ≡ true → FilesHold p b → ⊥
   no-r8 f r h q e t = refused r (finds-says (FileLaw (viewOf p b)) 1 (p .indexes + 1) f r h q) e (t .r8)
 
-  pub files-says : (r₇ r₈ r₉ : Bool) (f₈ : Finding) → Says r₇ (R7 (viewOf p b)) → not r₇ ≡ false
+  pub files-says : (r₇ r₈ r₉ : Bool) (f₇ f₈ : Finding) → Seeks false (SectorLaw (viewOf p b)) 1024 (1024 * (p .zones - 1)) f₇ → r₇ ≡ holdsAt f₇ → not r₇ ≡ false
       → Finds (FileLaw (viewOf p b)) 1 (p .indexes + 1) f₈ → r₈ ≡ holdsAt f₈ → not r₈ ≡ false → Says r₉ (R9 (viewOf p b)) → Says r₉ (FilesHold p b)
-  files-says r₇ r₈ r₉ f₈ s₇ e₇ h₈ q₈ e₈ s₉ =
-      says-map r₉ (λ r9. record { r7 = passed r₇ s₇ e₇; r8 = passed r₈ (finds-says (FileLaw (viewOf p b)) 1 (p .indexes + 1) f₈ r₈ h₈ q₈) e₈; r9 = r9 }) (λ t. t .r9) s₉
+  files-says r₇ r₈ r₉ f₇ f₈ h₇ q₇ e₇ h₈ q₈ e₈ s₉ =
+      says-map r₉ (λ r9. record { r7 = passed r₇ (r7-says f₇ r₇ h₇ q₇) e₇; r8 = passed r₈ (finds-says (FileLaw (viewOf p b)) 1 (p .indexes + 1) f₈ r₈ h₈ q₈) e₈; r9 = r9 }) (λ t. t .r9) s₉
 
   -- ---- all nine
 

@@ -1,21 +1,22 @@
 -- Marks below a limit: what a run, a table and all tables do to them, and what the lowest sector met twice says of R7.
-use mathlib.Core.Path.{_≡_, refl, _∙_}
-use mathlib.Core.Logic.{_≢_, inl, inr, ⊎-elim}
-use mathlib.Core.Bool.{Bool, true}
+use mathlib.Core.Path.{_≡_, refl, sym, ap, _∙_}
+use mathlib.Core.Logic.{inl, inr, ⊎-elim}
+use mathlib.Core.Bool.{Bool, true, false, not}
 use mathlib.Core.List.{List}
-use Prim.Native.Nat.{ℕ, _+_, _-_, _*_, _/_, _%_, _^_, _≤_, _<_}
-use native.Mathlib.Nat.{zero-div}
+use Prim.Native.Nat.{ℕ, _+_, _-_, _*_, _≤_, _<_}
 use native.Mathlib.Decide.{ℕ-discrete, decLt}
 use native.Mathlib.Omega.{arith}
-use lib.ListN.{length, replicate}
+use lib.ListN.{length, getD, set, replicate, length-replicate}
+use lib.Seq.{getD-set-same, getD-set-other, ext-getD}
+use borrow.Author.Tests.{not-true, not-false}
 use Rattle.field.specs.Says.{Says}
 use Rattle.field.specs.Sum.{sumTo}
 use Rattle.field.specs.Numbers.{u16At, u32At}
-use Rattle.field.specs.Bits.{bitOf, bitAt, putBit}
-use Rattle.field.proofs.Tests.{says-true}
+use Rattle.field.specs.Bits.{bitAt}
+use Rattle.field.proofs.Tests.{says-true, says-false}
 use Rattle.field.proofs.Sums.{sum-more}
 use Rattle.field.proofs.NumberLaws.{getD-zeros}
-use Rattle.field.proofs.BitLaws.{bitAt-lt, bit-put-same, bit-put-other, kept-putBit}
+use Rattle.field.proofs.BitLaws.{bitAt-lt}
 use Rattle.tables.specs.declared.index.Pointer.{Pointer}
 use Rattle.tables.specs.declared.places.Places.{Places}
 use Rattle.tables.specs.Places.{Layout}
@@ -23,74 +24,53 @@ use Rattle.tables.specs.Indexes.{pointerAt, slotsOf, baseOf}
 use Rattle.tables.specs.Views.{View, viewOf, cov, claimsOf, overOf, tally, claimsOver}
 use Rattle.tables.specs.Each.{Each}
 use Rattle.tables.specs.Rules.R6.{R6}
-use Rattle.tables.specs.Rules.R7.{R7}
-use Rattle.tables.proofs.PointerLaws.{cov-in, cov-before, cov-after, cov-none, claimed-under}
+use Rattle.tables.specs.Rules.R7.{Owned}
+use Rattle.tables.proofs.PointerLaws.{cov-in, cov-before, cov-after, cov-cases, cov-join, claimed-under}
+use Rattle.examination.specs.declared.finding.Finding.{Finding}
 use Rattle.examination.specs.declared.finding.Finding.the-variants.{Holds, Fails}
-use Rattle.examination.specs.Findings.{Finds}
-use Rattle.examination.specs.Marks.{overFirst, overTables}
+use Rattle.examination.specs.Findings.{Finds, Seeks}
+use Rattle.examination.specs.Marks.{markAt, MarksAdded, Adds, overFirst, overTables}
 use Rattle.examination.specs.Rulings.{SectorLaw}
-use Rattle.examination.specs.Limits.{Limited, Lowers, RunMarked}
+use Rattle.examination.specs.Limits.{Limited, Lowers, NoMarks}
+use Rattle.examination.proofs.SectorLaws.{R7-each, each-R7}
+use Rattle.examination.proofs.MarkLaws.{zeros-clear, mark-one, run-end, rule-says}
 
 -- ---- a run, sector by sector
 
-pub run-begin : (m : List ℕ) (from : ℕ) → length m ≡ 32768 → RunMarked m from m from
-run-begin m from l =
-    let e : from - from ≡ 0 = omega arith in
-    record { long = l; low = omega arith; bits = λ n. rw e (omega (arith, cov-none from n)) }
+-- a sector that is not marked can be marked
+pub set-one : (r : Bool) (m m' : List ℕ) (s : ℕ) → markAt m s ≡ 0 → Adds r m m' (cov s 1) → MarksAdded m m' (cov s 1)
+set-one true m m' s z a = a
+set-one false m m' s z a = absurd (a fits)
+  where
+    fits : (n : ℕ) → markAt m n + cov s 1 n ≤ 1
+    fits n = ⊎-elim (λ h. (let e : n ≡ s = omega (arith, h .low, h .high) in omega (arith, h .one, ap (markAt m) e))) (λ h. omega (arith, mark-one m n)) (cov-cases s 1 n)
 
--- a run that goes on is the same before it does
-cov-part : (a c d n : ℕ) → d ≤ c → n < a + d → cov a c n ≡ cov a d n
-cov-part a c d n h l = elim (decLt n a) [ yes k ↦ omega (arith, cov-before a c n k, cov-before a d n k) | no k ↦ omega (arith, cov-in a c n (omega arith) (omega arith), cov-in a d n (omega arith) l) ]
-
-module _ (m₀ m : List ℕ) (from s : ℕ) (a : RunMarked m₀ from m s) where
-  pub run-next : (m' : List ℕ) (x : ℕ) → s < 262144 → x ≡ bitAt m 0 s → x ≡ 0 → m' ≡ putBit m 0 s 1 → RunMarked m₀ from m' (s + 1)
-  run-next m' x l ex z e = rw e (record { long = kept-putBit m 0 s 1 .len ∙ a .long; low = omega (arith, a .low); bits = bits })
-    where
-      room : 0 + s / 8 < length m
-      room = omega (arith, a .long)
-
-      same : s + 1 - from ≡ s - from + 1
-      same = omega (arith, a .low)
-
-      step : (n : ℕ) → n ≢ s → cov from (s - from + 1) n ≡ cov from (s - from) n
-      step n d = elim (decLt n s) [
-        | yes h ↦ cov-part from (s - from + 1) (s - from) n (omega arith) (omega (arith, a .low))
-        | no h ↦ omega (arith, cov-after from (s - from + 1) n (omega (arith, a .low)), cov-after from (s - from) n (omega (arith, a .low)))
-      ]
-
-      bits : (n : ℕ) → bitAt (putBit m 0 s 1) 0 n ≡ bitAt m₀ 0 n + cov from (s + 1 - from) n
-      bits n =
-          rw same
-          (elim (ℕ-discrete n s) [
-            | yes g ↦ rw g (omega (arith, bit-put-same m 0 s 1 room (omega arith), a .bits s, cov-after from (s - from) s (omega (arith, a .low)), cov-in from (s - from + 1) s (a .low) (omega (arith, a .low))))
-            | no g ↦ omega (arith, bit-put-other m 0 s n 1 room (omega arith) g, a .bits n, step n g)
-          ])
-
+module _ (m₀ m : List ℕ) (from i count limit : ℕ) (long : length m₀ ≡ 4096) (a : MarksAdded m₀ m (cov from i)) where
   -- as far as it is marked, the marks are those of the whole run
-  so-far : (count n : ℕ) → s ≤ from + count → n < s → bitAt m 0 n ≡ bitAt m₀ 0 n + cov from count n
-  so-far count n e l = omega (arith, a .bits n, cov-part from count (s - from) n (omega (arith, a .low)) (omega (arith, a .low)))
+  so-far : (n : ℕ) → i ≤ count → n < from + i → markAt m n ≡ markAt m₀ n + cov from count n
+  so-far n h l =
+      let e : cov from count n ≡ cov from (i + (count - i)) n = ap (λ (c : ℕ). cov from c n) (let g : count ≡ i + (count - i) = omega arith in g) in
+      omega (arith, a .bits n, cov-join from i (count - i) n, cov-before (from + i) (count - i) n l)
 
   -- the limit is reached; a sector was marked already; or the run is at its end
-  pub run-far : (count limit : ℕ) → limit ≤ s → s ≤ from + count → Lowers m₀ limit (cov from count) m limit
-  run-far count limit h e = record { long = a .long; lower = omega arith; bits = λ n l. so-far count n e (omega arith); twice = inl refl }
+  pub run-far : i ≤ count → limit ≤ from + i → Lowers m₀ limit (cov from count) m limit
+  run-far h l = record { long = a .len ∙ long; lower = omega arith; bits = λ n k. so-far n h (omega arith); twice = inl refl }
 
-  pub run-twice : (count limit x : ℕ) → s < from + count → s < limit → x ≡ bitAt m 0 s → (x ≡ 0 → ⊥) → Lowers m₀ limit (cov from count) m s
-  run-twice count limit x l h ex ne = record {
-    long = a .long;
+  pub run-twice : (x : ℕ) → i < count → from + i < limit → x ≡ markAt m (from + i) → (x ≡ 0 → ⊥) → Lowers m₀ limit (cov from count) m (from + i)
+  run-twice x h l e ne = record {
+    long = a .len ∙ long;
     lower = omega arith;
-    bits = λ n k. so-far count n (omega arith) k;
-    twice = inr (omega (arith, a .bits s, cov-after from (s - from) s (omega (arith, a .low)), cov-in from count s (a .low) l));
+    bits = λ n k. so-far n (omega arith) k;
+    twice = inr (omega (arith, a .bits (from + i), cov-after from i (from + i) (omega arith), cov-in from count (from + i) (omega arith) (omega arith)));
   }
 
-  pub run-full : (count limit : ℕ) → s ≤ from + count → from + count ≤ s → Lowers m₀ limit (cov from count) m limit
-  run-full count limit h g =
-      let e : s - from ≡ count = omega arith in
-      record { long = a .long; lower = omega arith; bits = λ n k. rw e at (a .bits n); twice = inl refl }
+  pub run-full : i ≤ count → count ≤ i → Lowers m₀ limit (cov from count) m limit
+  run-full h g = let e = run-end m₀ m from count i a h g in record { long = a .len ∙ long; lower = omega arith; bits = λ n k. e .bits n; twice = inl refl }
 
 -- ---- one after the other
 
 -- nothing more changes nothing; and what is added in two steps is added
-lowers-none : (m : List ℕ) (limit : ℕ) (D : ℕ → ℕ) → length m ≡ 32768 → ((s : ℕ) → D s ≡ 0) → Lowers m limit D m limit
+lowers-none : (m : List ℕ) (limit : ℕ) (D : ℕ → ℕ) → length m ≡ 4096 → ((s : ℕ) → D s ≡ 0) → Lowers m limit D m limit
 lowers-none m limit D l z = record { long = l; lower = omega arith; bits = λ s h. omega (arith, z s); twice = inl refl }
 
 lowers-more : {m m' m'' : List ℕ} {l l' l'' : ℕ} {D E : ℕ → ℕ} (F : ℕ → ℕ) → Lowers m l D m' l' → Lowers m' l' E m'' l'' → ((s : ℕ) → F s ≡ D s + E s) → Lowers m l F m'' l''
@@ -107,7 +87,7 @@ lowers-more {m} {m'} {m''} {l} {l'} {l''} {D} {E} F x y e = record {
 -- ---- a table, pointer by pointer
 
 module _ (t : List ℕ) (base : ℕ) (m₀ : List ℕ) (limit : ℕ) where
-  pub pointers-none : length m₀ ≡ 32768 → Lowers m₀ limit (overFirst t base 0) m₀ limit
+  pub pointers-none : length m₀ ≡ 4096 → Lowers m₀ limit (overFirst t base 0) m₀ limit
   unfolding overFirst sumTo
   pointers-none l = lowers-none m₀ limit (overFirst t base 0) l (λ s. refl)
 
@@ -124,7 +104,7 @@ module _ (t : List ℕ) (base : ℕ) (m₀ : List ℕ) (limit : ℕ) where
 -- ---- all tables
 
 module _ (v : View) (m₀ : List ℕ) (limit : ℕ) where
-  pub all-none : length m₀ ≡ 32768 → Lowers m₀ limit (overTables v 0) m₀ limit
+  pub all-none : length m₀ ≡ 4096 → Lowers m₀ limit (overTables v 0) m₀ limit
   unfolding overTables sumTo
   all-none l = lowers-none m₀ limit (overTables v 0) l (λ s. refl)
 
@@ -139,26 +119,35 @@ module _ (v : View) (m₀ : List ℕ) (limit : ℕ) where
 
 -- ---- from marks that are clear
 
-zero-bits : (k s : ℕ) → bitAt (replicate k 0) 0 s ≡ 0
-unfolding bitAt bitOf
-zero-bits k s = rw (getD-zeros k (0 + s / 8), zero-div (2 ^ (7 - s % 8)))
+-- word by word
+pub clear-more : (m : List ℕ) (j : ℕ) → ((k : ℕ) → k < j → getD m k 0 ≡ 0) → j < length m → (k : ℕ) → k < j + 1 → getD (set m j 0) k 0 ≡ 0
+clear-more m j h l k lk = elim (ℕ-discrete k j) [
+  | yes e ↦ rw e (getD-set-same m j 0 0 l)
+  | no ne ↦ getD-set-other m j k 0 0 ne ∙ h k (omega arith)
+]
 
-pub limited : (m : List ℕ) (limit end : ℕ) (D : ℕ → ℕ) → Lowers (replicate 32768 0) end D m limit → Limited m limit D end
-limited m limit end D a = record {
+pub cleared : (m : List ℕ) (j : ℕ) → length m ≡ 4096 → ((k : ℕ) → k < j → getD m k 0 ≡ 0) → 4096 ≤ j → NoMarks m
+cleared m j long h l = record { long = long; clear = λ n. ap (λ (x : List ℕ). markAt x n) zeros ∙ zeros-clear 4096 n }
+  where
+    zeros : m ≡ replicate 4096 0
+    zeros = ext-getD 0 m (replicate 4096 0) (long ∙ sym (length-replicate {A = ℕ} 4096 0)) (λ k g. h k (omega arith) ∙ sym (getD-zeros 4096 k))
+
+pub limited : (m₀ m : List ℕ) (limit end : ℕ) (D : ℕ → ℕ) → NoMarks m₀ → Lowers m₀ end D m limit → Limited m limit D end
+limited m₀ m limit end D z a = record {
   long = a .long;
   most = a .lower;
-  bits = λ s h. omega (arith, a .bits s h, zero-bits 32768 s);
-  twice = ⊎-elim (λ h. inl h) (λ h. inr (omega (arith, zero-bits 32768 limit))) (a .twice);
+  bits = λ s h. omega (arith, a .bits s h, z .clear s);
+  twice = ⊎-elim (λ h. inl h) (λ h. inr (omega (arith, z .clear limit))) (a .twice);
 }
 
 -- ---- R7
 
 module _ (p : Places) (b m : List ℕ) (limit : ℕ) (a : Limited m limit (claimsOver (viewOf p b)) (1024 * (p .zones - 1))) where
   -- below the limit the rule is that mark and bit are the same
-  same-law : (s : ℕ) → s < limit → bitAt b (p .sectortable) s ≡ bitAt m 0 s → SectorLaw (viewOf p b) s
+  same-law : (s : ℕ) → s < limit → bitAt b (p .sectortable) s ≡ markAt m s → SectorLaw (viewOf p b) s
   same-law s l e = omega (arith, a .bits s l)
 
-  law-same : (s : ℕ) → s < limit → SectorLaw (viewOf p b) s → bitAt b (p .sectortable) s ≡ bitAt m 0 s
+  law-same : (s : ℕ) → s < limit → SectorLaw (viewOf p b) s → bitAt b (p .sectortable) s ≡ markAt m s
   law-same s l e = omega (arith, a .bits s l)
 
   -- a sector under two pointers breaks it
@@ -176,8 +165,8 @@ module _ (p : Places) (b m : List ℕ) (limit : ℕ) (a : Limited m limit (claim
     | no l ↦ omega arith
   ]
 
-  module _ (s : ℕ) (each : Each (λ k. bitAt b (p .sectortable) k ≡ bitAt m 0 k) 1024 s) where
-    pub unequal-here : (x y : ℕ) → 1024 ≤ s → s < limit → x ≡ bitAt b (p .sectortable) s → y ≡ bitAt m 0 s → (x ≡ y → ⊥) → Finds (SectorLaw (viewOf p b)) 1024 (1024 * (p .zones - 1)) (Fails s)
+  module _ (s : ℕ) (each : Each (λ k. bitAt b (p .sectortable) k ≡ markAt m k) 1024 s) where
+    pub unequal-here : (x y : ℕ) → 1024 ≤ s → s < limit → x ≡ bitAt b (p .sectortable) s → y ≡ markAt m s → (x ≡ y → ⊥) → Finds (SectorLaw (viewOf p b)) 1024 (1024 * (p .zones - 1)) (Fails s)
     unequal-here x y lo l ex ey ne = record {
       low = lo;
       high = omega (arith, a .most);
@@ -196,6 +185,18 @@ module _ (p : Places) (b m : List ℕ) (limit : ℕ) (a : Limited m limit (claim
     pub equal-all : limit ≤ s → 1024 * (p .zones - 1) ≤ limit → Finds (SectorLaw (viewOf p b)) 1024 (1024 * (p .zones - 1)) Holds
     equal-all h l k lk lo = same-law k (omega arith) (each k (omega arith) lo)
 
--- where the rule holds, it holds at each place
-pub rule-places : (p : Places) (b : List ℕ) (r : Bool) → Says r (R7 (viewOf p b)) → r ≡ true → Finds (SectorLaw (viewOf p b)) 1024 (1024 * (p .zones - 1)) Holds
-rule-places p b r s e = says-true r s e .count
+-- whether the rule holds, and where it does not, if that is sought
+module _ (p : Places) (b : List ℕ) (seek : Bool) where
+  module _ (r : Bool) (s : Says r (Owned (viewOf p b) (markAt (replicate 4096 0)))) where
+    pub seek-holds : r ≡ true → Seeks seek (SectorLaw (viewOf p b)) 1024 (1024 * (p .zones - 1)) Holds
+    seek-holds e = either seek (R7-each (viewOf p b) (says-true r (rule-says p b r s) e))
+      where
+        either : (x : Bool) → Each (SectorLaw (viewOf p b)) 1024 (1024 * (p .zones - 1)) → Seeks x (SectorLaw (viewOf p b)) 1024 (1024 * (p .zones - 1)) Holds
+        either true h = h
+        either false h = h
+
+    pub seek-fails : r ≡ false → not seek ≡ true → Seeks seek (SectorLaw (viewOf p b)) 1024 (1024 * (p .zones - 1)) (Fails 0)
+    seek-fails e n = rw (not-true seek n) (λ h. says-false r (rule-says p b r s) e (each-R7 (viewOf p b) h))
+
+  pub seek-lowest : (f : Finding) → not seek ≡ false → Finds (SectorLaw (viewOf p b)) 1024 (1024 * (p .zones - 1)) f → Seeks seek (SectorLaw (viewOf p b)) 1024 (1024 * (p .zones - 1)) f
+  seek-lowest f n h = rw (not-false seek n) h

@@ -261,12 +261,12 @@ module _ (b : List ℕ) (small : (j : ℕ) → getD b j 0 < 256) where
 
 -- ---- R7
 
-zeros-clear : (k n : ℕ) → markAt (replicate k 0) n ≡ 0
+pub zeros-clear : (k n : ℕ) → markAt (replicate k 0) n ≡ 0
 unfolding markAt bitOf
 zeros-clear k n = rw (getD-zeros k (n / 64), zero-div (2 ^ (63 - n % 64)))
 
 -- a mark is 0 or 1
-mark-one : (m : List ℕ) (n : ℕ) → markAt m n ≤ 1
+pub mark-one : (m : List ℕ) (n : ℕ) → markAt m n ≤ 1
 unfolding markAt
 mark-one m n = omega (arith, bit-lt (getD m (n / 64) 0) (63 - n % 64))
 

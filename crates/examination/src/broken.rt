@@ -10,7 +10,7 @@ use crate::fault::is_fault;
 use crate::files::rule8;
 use crate::free::free_chain;
 use crate::free::own_bytes;
-use crate::owned::rule7_place;
+use crate::owned::rule7;
 use crate::pointers::rule6;
 use crate::tails::rule1_place;
 use crate::zones::rule2;
@@ -66,7 +66,7 @@ fn file_fault(b: &[u8], p: Places) -> Fault
     requires { ⌜ R6 (viewOf p (now b)) ⌝ }
     ensures { λ r. ⌜ NamesFault (fileRulings p (now (b .entry))) r ⌝ }
 {
-    let sectors = in_sector(7, rule7_place(b, p));
+    let sectors = in_sector(7, rule7(b, p, true));
     if is_fault(sectors) {
         return sectors;
     }

@@ -5,7 +5,7 @@ use crate::files::rule8;
 use crate::finding::holds;
 use crate::free::free_chain;
 use crate::free::own_bytes;
-use crate::marks::rule7;
+use crate::owned::rule7;
 use crate::pointers::rule6;
 use crate::tails::tails_null;
 use crate::zones::rule2;
@@ -169,7 +169,7 @@ fn files_hold(b: &[u8], p: Places) -> bool
     requires { ⌜ R6 (viewOf p (now b)) ⌝ }
     ensures { λ r. ⌜ Says r (FilesHold p (now (b .entry))) ⌝ }
 {
-    if !rule7(b, p) {
+    if !holds(rule7(b, p, false)) {
         return false;
     }
     if !holds(rule8(b, p)) {

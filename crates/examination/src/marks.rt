@@ -13,15 +13,15 @@ ghost use Rattle.field.specs.Says.{Says};
 ghost use Rattle.tables.specs.Places.{Layout};
 ghost use Rattle.tables.specs.Views.{viewOf, cov, claimsOf, claimsOver};
 ghost use Rattle.tables.specs.Rules.R6.{R6};
-ghost use Rattle.tables.specs.Rules.R7.{Owned, R7};
+ghost use Rattle.tables.specs.Rules.R7.{Owned};
 ghost use Rattle.examination.specs.Marks.{InWord, Piece, Adds, TableFits, Agrees, markAt, wordAt};
 
 // The marks of a word, the words of a zone, and the words of 256 zones.
-const WORD: u32 = 64;
+pub const WORD: u32 = 64;
 
 const ZONE_WORDS: usize = 16;
 
-const WORDS: usize = 4096;
+pub const WORDS: usize = 4096;
 
 // How many of the marks that are left stand in the word of mark `at`.
 fn in_word(at: Sector, left: u32) -> u32
@@ -53,7 +53,7 @@ fn behind_high(k: u32) -> u64
 
 // Marks w sectors whose marks stand in one word. The marks are clear if the word from them on is no more than the bits after them can make;
 // being clear, they are set by adding.
-fn mark_piece(m: &mut [u64], at: Sector, w: u32) -> bool
+pub fn mark_piece(m: &mut [u64], at: Sector, w: u32) -> bool
     requires { ⌜ InWord (at .0) w ⌝ }
     requires { ⌜ at .0 / 64 < length (now m) ⌝ }
     ensures { λ r. ⌜ Adds r (now (m .entry)) (now (m .exit)) (cov (at .0) w) ⌝ }
@@ -155,7 +155,7 @@ fn agrees(b: &[u8], p: Places, m: &[u64]) -> bool
 }
 
 // Is each sector outside zones 1 and Z marked already or under one pointer, and not both, exactly if its bit is set?
-fn owned(b: &[u8], p: Places, m: &mut [u64]) -> bool
+pub fn owned(b: &[u8], p: Places, m: &mut [u64]) -> bool
     requires { ⌜ Layout p (length (now b)) ⌝ }
     requires { ⌜ R6 (viewOf p (now b)) ⌝ }
     requires { ⌜ length (now m) ≡ 4096 ⌝ }
@@ -165,14 +165,4 @@ fn owned(b: &[u8], p: Places, m: &mut [u64]) -> bool
         return false;
     }
     agrees(b, p, m)
-}
-
-// Is each under one pointer if its bit is set, else under none?
-pub fn rule7(b: &[u8], p: Places) -> bool
-    requires { ⌜ Layout p (length (now b)) ⌝ }
-    requires { ⌜ R6 (viewOf p (now b)) ⌝ }
-    ensures { λ r. ⌜ Says r (R7 (viewOf p (now (b .entry)))) ⌝ }
-{
-    let mut m = [0u64; WORDS];
-    owned(b, p, &mut m)
 }

@@ -2,9 +2,11 @@
 // examination of the rule, but nothing is asked from the lowest sector on that was met marked already. So each sector is marked once at
 // most, and the pass is linear, however many pointers lie over each other.
 use crate::finding::Finding;
-use crate::marks::rule7;
+use crate::marks::WORD;
+use crate::marks::WORDS;
+use crate::marks::mark_piece;
+use crate::marks::owned;
 use field::bits::get_bit;
-use field::bits::put_bit;
 use tables::index;
 use tables::index::Pointer;
 use tables::kinds::Index;
@@ -12,44 +14,59 @@ use tables::kinds::Sector;
 use tables::places::Places;
 use tables::sizes::ZONE;
 ghost use mathlib.Core.Path.{_≡_};
-ghost use Prim.Native.Nat.{_+_, _-_, _*_, _≤_};
+ghost use Prim.Native.Nat.{_+_, _-_, _*_, _/_, _≤_, _<_};
 ghost use lib.ListN.{length};
 ghost use Rattle.tables.specs.Places.{Layout};
 ghost use Rattle.tables.specs.Views.{viewOf, cov, claimsOf, claimsOver};
 ghost use Rattle.tables.specs.Rules.R6.{R6};
-ghost use Rattle.examination.specs.Findings.{Finds};
-ghost use Rattle.examination.specs.Marks.{TableFits};
+ghost use Rattle.examination.specs.Findings.{Finds, Seeks};
+ghost use Rattle.examination.specs.Marks.{TableFits, markAt, MarksAdded};
 ghost use Rattle.examination.specs.Rulings.{SectorLaw};
-ghost use Rattle.examination.specs.Limits.{Limited, Lowers};
+ghost use Rattle.examination.specs.Limits.{Limited, Lowers, NoMarks};
 
-// A mark for each sector of 256 zones.
-const BITMAP: usize = 32768;
+// Sector s's mark.
+fn mark_of(m: &[u64], s: Sector) -> u32
+    requires { ⌜ s .0 / 64 < length (now m) ⌝ }
+    ensures { λ r. ⌜ (r ≡ markAt (now (m .entry)) (s .0)) × (r < 2) ⌝ }
+{
+    let j = (s.0 / WORD) as usize;
+    let k = WORD - 1 - s.0 % WORD;
+    ((m[j] >> k) % 2) as u32
+}
+
+// Marks a sector that is not marked.
+fn set_mark(m: &mut [u64], s: Sector)
+    requires { ⌜ s .0 / 64 < length (now m) ⌝ }
+    requires { ⌜ markAt (now m) (s .0) ≡ 0 ⌝ }
+    ensures { λ _. ⌜ MarksAdded (now (m .entry)) (now (m .exit)) (cov (s .0) 1) ⌝ }
+{
+    mark_piece(m, s, 1);
+}
 
 // Marks the sectors of a run that lie below `limit`. Answers the first of them that was marked already, else `limit`.
-fn mark_below(m: &mut [u8], q: Pointer, limit: Sector) -> Sector
-    requires { ⌜ length (now m) ≡ 32768 ⌝ }
-    requires { ⌜ (q .start .0 + q .count ≤ 262144) × (limit .0 ≤ 262144) ⌝ }
+fn mark_below(m: &mut [u64], q: Pointer, limit: Sector) -> Sector
+    requires { ⌜ length (now m) ≡ 4096 ⌝ }
+    requires { ⌜ q .start .0 + q .count ≤ 262144 ⌝ }
     ensures { λ r. ⌜ Lowers (now (m .entry)) (limit .0) (cov (q .start .0) (q .count)) (now (m .exit)) (r .0) ⌝ }
 {
-    let end = q.start.0 + q.count;
-    let mut s = q.start.0;
-    while s < end {
-        if s >= limit.0 {
+    let mut i: u32 = 0;
+    while i < q.count {
+        let s = Sector(q.start.0 + i);
+        if s.0 >= limit.0 {
             return limit;
         }
-        if get_bit(m, 0, s as usize) != 0 {
-            return Sector(s);
+        if mark_of(m, s) != 0 {
+            return s;
         }
-        put_bit(m, 0, s as usize, 1);
-        s += 1;
+        set_mark(m, s);
+        i += 1;
     }
     limit
 }
 
 // Marks the sectors under the pointers of table i, as far as they lie below the limit, which they may lower.
-fn mark_table(i: Index, t: &[u8], m: &mut [u8], limit: Sector) -> Sector
-    requires { ⌜ TableFits (i .0) (now t) 4096 ⌝ }
-    requires { ⌜ (length (now m) ≡ 32768) × (limit .0 ≤ 262144) ⌝ }
+fn mark_table(i: Index, t: &[u8], m: &mut [u64], limit: Sector) -> Sector
+    requires { ⌜ TableFits (i .0) (now t) (length (now m)) ⌝ }
     ensures { λ r. ⌜ Lowers (now (m .entry)) (limit .0) (claimsOf (i .0) (now (t .entry))) (now (m .exit)) (r .0) ⌝ }
 {
     let slots = index::slots(i, t);
@@ -65,10 +82,10 @@ fn mark_table(i: Index, t: &[u8], m: &mut [u8], limit: Sector) -> Sector
 }
 
 // The same for all tables.
-fn mark_tables(b: &[u8], p: Places, m: &mut [u8], limit: Sector) -> Sector
+fn mark_tables(b: &[u8], p: Places, m: &mut [u64], limit: Sector) -> Sector
     requires { ⌜ Layout p (length (now b)) ⌝ }
     requires { ⌜ R6 (viewOf p (now b)) ⌝ }
-    requires { ⌜ (length (now m) ≡ 32768) × (limit .0 ≤ 262144) ⌝ }
+    requires { ⌜ length (now m) ≡ 4096 ⌝ }
     ensures { λ r. ⌜ Lowers (now (m .entry)) (limit .0) (claimsOver (viewOf p (now (b .entry)))) (now (m .exit)) (r .0) ⌝ }
 {
     let indexes = p.indexes;
@@ -83,7 +100,7 @@ fn mark_tables(b: &[u8], p: Places, m: &mut [u8], limit: Sector) -> Sector
 }
 
 // The lowest sector below `limit` whose mark is not its bit; else the limit, where that lies below zone Z.
-fn first_unequal(b: &[u8], p: Places, m: &[u8], limit: Sector) -> Finding
+fn first_unequal(b: &[u8], p: Places, m: &[u64], limit: Sector) -> Finding
     requires { ⌜ Layout p (length (now b)) ⌝ }
     requires { ⌜ R6 (viewOf p (now b)) ⌝ }
     requires { ⌜ Limited (now m) (limit .0) (claimsOver (viewOf p (now b))) (1024 * (p .zones - 1)) ⌝ }
@@ -93,7 +110,7 @@ fn first_unequal(b: &[u8], p: Places, m: &[u8], limit: Sector) -> Finding
     let end = ZONE * (p.zones - 1);
     let mut s: u32 = ZONE;
     while s < limit.0 {
-        if get_bit(b, base, s as usize) != get_bit(m, 0, s as usize) {
+        if get_bit(b, base, s as usize) != mark_of(m, Sector(s)) {
             return Finding::Fails(s);
         }
         s += 1;
@@ -104,25 +121,43 @@ fn first_unequal(b: &[u8], p: Places, m: &[u8], limit: Sector) -> Finding
     Finding::Holds
 }
 
-// The lowest sector that breaks R7, from marks of their own.
-fn lowest_sector(b: &[u8], p: Places) -> Finding
-    requires { ⌜ Layout p (length (now b)) ⌝ }
-    requires { ⌜ R6 (viewOf p (now b)) ⌝ }
-    ensures { λ r. ⌜ Finds (SectorLaw (viewOf p (now (b .entry)))) 1024 (1024 * (p .zones - 1)) r ⌝ }
+// Takes all marks away.
+fn clear_marks(m: &mut [u64])
+    requires { ⌜ length (now m) ≡ 4096 ⌝ }
+    ensures { λ _. ⌜ NoMarks (now (m .exit)) ⌝ }
 {
-    let mut m = [0u8; BITMAP];
-    let limit = mark_tables(b, p, &mut m, Sector(ZONE * (p.zones - 1)));
-    first_unequal(b, p, &m, limit)
+    let mut j: usize = 0;
+    while j < WORDS {
+        m[j] = 0;
+        j += 1;
+    }
 }
 
-// R7, or the lowest sector that breaks it; sought only where the examination says that it is broken.
-pub fn rule7_place(b: &[u8], p: Places) -> Finding
+// The lowest sector that breaks R7, whatever marks there were.
+fn lowest_sector(b: &[u8], p: Places, m: &mut [u64]) -> Finding
     requires { ⌜ Layout p (length (now b)) ⌝ }
     requires { ⌜ R6 (viewOf p (now b)) ⌝ }
+    requires { ⌜ length (now m) ≡ 4096 ⌝ }
     ensures { λ r. ⌜ Finds (SectorLaw (viewOf p (now (b .entry)))) 1024 (1024 * (p .zones - 1)) r ⌝ }
 {
-    if rule7(b, p) {
+    clear_marks(m);
+    let limit = mark_tables(b, p, m, Sector(ZONE * (p.zones - 1)));
+    first_unequal(b, p, m, limit)
+}
+
+// R7: is each sector outside zones 1 and Z under one pointer if its bit is set, else under none? The lowest that is not is sought only if it is
+// asked for, in the marks of the examination: one table of them serves both, in one function, so that no call has two on its stack.
+pub fn rule7(b: &[u8], p: Places, seek: bool) -> Finding
+    requires { ⌜ Layout p (length (now b)) ⌝ }
+    requires { ⌜ R6 (viewOf p (now b)) ⌝ }
+    ensures { λ r. ⌜ Seeks seek (SectorLaw (viewOf p (now (b .entry)))) 1024 (1024 * (p .zones - 1)) r ⌝ }
+{
+    let mut m = [0u64; WORDS];
+    if owned(b, p, &mut m) {
         return Finding::Holds;
     }
-    lowest_sector(b, p)
+    if !seek {
+        return Finding::Fails(0);
+    }
+    lowest_sector(b, p, &mut m)
 }

@@ -8,6 +8,7 @@ files-hold-spec =
     tie.close
     (tie.spec
     (λ c κs. search needs)
+    (λ c κs. search needs)
     (λ c. search no-r7)
     (λ c κs. search needs)
     (λ c κs. search needs)

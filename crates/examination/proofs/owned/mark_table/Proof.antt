@@ -31,7 +31,7 @@ mark-table-spec =
     (λ c. search needs)
     (λ c. search needs)
     (λ c κs. (search needs, search slot-in))
-    (λ c κs. (search needs, (search pointer-room, search needs)))
+    (λ c κs. (search needs, search pointer-room))
     (λ c. search needs)
     (λ c. search needs)
     loop-again

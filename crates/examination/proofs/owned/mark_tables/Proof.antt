@@ -1,5 +1,4 @@
 use native.Mathlib.Omega.{arith}
-use mathlib.Core.Path.{refl}
 use Prim.Native.Nat.{_≤_, _-_}
 use Rattle.tables.specs.Views.{viewOf}
 use Rattle.examination.specs.Marks.{overTables}
@@ -19,7 +18,7 @@ abbrev μ-loop : tie.MeasureT-loop
 mark-table-requires : tie.Need-mark-table-requires Inv-loop μ-loop
 mark-table-requires c κs =
     let s = c .before .before .before .before .before .before in
-    (table-fits (s .args .p) (s .args .b .now) (s .pre .0) (s .pre .1 .0) _ _ _ (omega arith) (omega arith) (c .before .table .ensures .0) refl, (search needs, search needs))
+    table-fits (s .args .p) (s .args .b .now) (s .pre .0) (s .pre .1 .0) _ _ _ (omega arith) (omega arith) (c .before .table .ensures .0) (c .before .before .before .loop .inv .1 .long)
 
 loop-again : tie.Need-loop-again Inv-loop μ-loop
 loop-again c =

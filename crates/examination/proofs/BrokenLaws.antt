@@ -15,7 +15,7 @@ use Rattle.tables.specs.Lawful.{Lawful}
 use Rattle.examination.specs.declared.fault.Fault.{Fault}
 use Rattle.examination.specs.declared.fault.Fault.the-variants.{Nothing, AtZone, AtSector, AtIndex, AtCount}
 use Rattle.examination.specs.Examined.{PlacedAt}
-use Rattle.examination.specs.Rulings.{FreeChained, countKind, says, zoneRulings, indexRulings, fileRulings, rulings, Broken, Lower}
+use Rattle.examination.specs.Rulings.{FreeChained, countKind, speaks, zoneRulings, indexRulings, fileRulings, rulings, Broken, Lower}
 use Rattle.examination.specs.Faults.{ruleOf, placeKindOf, placeOf, NamesFault, isFault, countFault}
 use Rattle.examination.proofs.TailLaws.{tails-each, each-tails}
 use Rattle.examination.proofs.ChainedLaws.{R5-each, each-R5}
@@ -38,10 +38,10 @@ kind-none (AtCount r) e = absurd (omega arith)
 
 -- the two rulings that name no place
 module _ (v : View) (g : Fault) (r : Bool) where
-  pub chain-verdict : Says r (FreeChained v) → g ≡ countFault 4 r → Verdict (says 4 countKind (λ k. FreeChained v) 0 1) g
+  pub chain-verdict : Says r (FreeChained v) → g ≡ countFault 4 r → Verdict (speaks 4 countKind (λ k. FreeChained v) 0 1) g
   chain-verdict s e = count-verdict 4 (FreeChained v) g r s e
 
-  pub counts-verdict : Says r (R9 v) → g ≡ countFault 9 r → Verdict (says 9 countKind (λ k. R9 v) 0 1) g
+  pub counts-verdict : Says r (R9 v) → g ≡ countFault 9 r → Verdict (speaks 9 countKind (λ k. R9 v) 0 1) g
   counts-verdict s e = count-verdict 9 (R9 v) g r s e
 
 module _ (p : Places) (b : List ℕ) where

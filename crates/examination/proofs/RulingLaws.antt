@@ -14,7 +14,7 @@ use Rattle.examination.specs.declared.fault.Fault.the-variants.{Nothing,
 use Rattle.examination.specs.declared.finding.Finding.{Finding}
 use Rattle.examination.specs.declared.finding.Finding.the-variants.{Holds, Fails}
 use Rattle.examination.specs.Findings.{Lowest, Finds}
-use Rattle.examination.specs.Rulings.{Ruling, says, zoneKind, sectorKind, indexKind, countKind, BrokenIn, Lower, Names}
+use Rattle.examination.specs.Rulings.{Ruling, speaks, zoneKind, sectorKind, indexKind, countKind, BrokenIn, Lower, Names}
 use Rattle.examination.specs.Faults.{ruleOf, placeKindOf, placeOf, NamesFault, isFault, zoneFault, sectorFault, indexFault, countFault}
 
 -- ---- what was found of one rule is named
@@ -25,28 +25,28 @@ pub record Verdict (x : Ruling) (f : Fault) : Type 0 where
   pub kinded : 0 < x .kind
 
 module _ (rule : ℕ) (P : ℕ → Type 0) (from end : ℕ) (g : Fault) where
-  holding : (kind : ℕ) → Each P from end → g ≡ Nothing → Names (says rule kind P from end ∷ []) (ruleOf g) (placeKindOf g) (placeOf g)
+  holding : (kind : ℕ) → Each P from end → g ≡ Nothing → Names (speaks rule kind P from end ∷ []) (ruleOf g) (placeKindOf g) (placeOf g)
   unfolding Names
   holding kind h e = rw e (inl (h, (refl, refl, refl)))
 
-  failing : (kind k : ℕ) → Lowest P from end k → ruleOf g ≡ rule → placeKindOf g ≡ kind → placeOf g ≡ k → Names (says rule kind P from end ∷ []) (ruleOf g) (placeKindOf g) (placeOf g)
+  failing : (kind k : ℕ) → Lowest P from end k → ruleOf g ≡ rule → placeKindOf g ≡ kind → placeOf g ≡ k → Names (speaks rule kind P from end ∷ []) (ruleOf g) (placeKindOf g) (placeOf g)
   unfolding Names
   failing kind k h r c n = inr (record { rule' = r; kind' = c; lowest = rw n h })
 
-  pub zone-verdict : (f : Finding) → Finds P from end f → g ≡ zoneFault rule f → Verdict (says rule zoneKind P from end) g
+  pub zone-verdict : (f : Finding) → Finds P from end f → g ≡ zoneFault rule f → Verdict (speaks rule zoneKind P from end) g
   zone-verdict Holds h e = record { names = holding zoneKind h e; kinded = omega arith }
   zone-verdict (Fails k) h e = record { names = failing zoneKind k h (ap ruleOf e) (ap placeKindOf e) (ap placeOf e); kinded = omega arith }
 
-  pub sector-verdict : (f : Finding) → Finds P from end f → g ≡ sectorFault rule f → Verdict (says rule sectorKind P from end) g
+  pub sector-verdict : (f : Finding) → Finds P from end f → g ≡ sectorFault rule f → Verdict (speaks rule sectorKind P from end) g
   sector-verdict Holds h e = record { names = holding sectorKind h e; kinded = omega arith }
   sector-verdict (Fails k) h e = record { names = failing sectorKind k h (ap ruleOf e) (ap placeKindOf e) (ap placeOf e); kinded = omega arith }
 
-  pub index-verdict : (f : Finding) → Finds P from end f → g ≡ indexFault rule f → Verdict (says rule indexKind P from end) g
+  pub index-verdict : (f : Finding) → Finds P from end f → g ≡ indexFault rule f → Verdict (speaks rule indexKind P from end) g
   index-verdict Holds h e = record { names = holding indexKind h e; kinded = omega arith }
   index-verdict (Fails k) h e = record { names = failing indexKind k h (ap ruleOf e) (ap placeKindOf e) (ap placeOf e); kinded = omega arith }
 
 -- a rule as a whole, at place 0
-pub count-verdict : (rule : ℕ) (P : Type 0) (g : Fault) (r : Bool) → Says r P → g ≡ countFault rule r → Verdict (says rule countKind (λ k. P) 0 1) g
+pub count-verdict : (rule : ℕ) (P : Type 0) (g : Fault) (r : Bool) → Says r P → g ≡ countFault rule r → Verdict (speaks rule countKind (λ k. P) 0 1) g
 count-verdict rule P g true s e = record { names = holding rule (λ k. P) 0 1 g countKind (λ k l lo. s) e; kinded = omega arith }
 count-verdict rule P g false s e = record {
   names = failing rule (λ k. P) 0 1 g countKind 0 (record { low = omega arith; high = omega arith; fails = s; below = λ k l lo. absurd (omega arith) }) (ap ruleOf e) (ap placeKindOf e) (ap placeOf e);

@@ -67,28 +67,28 @@ pub record Ruling : Type 1 where
   pub from : ℕ
   pub end : ℕ
 
-abbrev pub says : ℕ → ℕ → (ℕ → Type 0) → ℕ → ℕ → Ruling
-says rule kind law from end = record { rule = rule; kind = kind; law = law; from = from; end = end }
+abbrev pub speaks : ℕ → ℕ → (ℕ → Type 0) → ℕ → ℕ → Ruling
+speaks rule kind law from end = record { rule = rule; kind = kind; law = law; from = from; end = end }
 
 -- "R1 and R7 name a sector, R2 and R3 a zone, R4 (own bytes), R5, R6 and R8 an index; R4's chain and R9 are kind `count`, place 0."
 -- "R4: own bytes first. The chain is named only where every table's own bytes are right."
 abbrev pub zoneRulings : Places → List ℕ → List Ruling
-zoneRulings p b = says 1 sectorKind (TailLaw p b) 0 (length b / 1024)
-    ∷ says 2 zoneKind (ZoneLaw (viewOf p b)) 1 (p .zones + 1)
-    ∷ says 3 zoneKind (BlockLaw (viewOf p b)) 2 (p .zones)
+zoneRulings p b = speaks 1 sectorKind (TailLaw p b) 0 (length b / 1024)
+    ∷ speaks 2 zoneKind (ZoneLaw (viewOf p b)) 1 (p .zones + 1)
+    ∷ speaks 3 zoneKind (BlockLaw (viewOf p b)) 2 (p .zones)
     ∷ []
 
 abbrev pub indexRulings : Places → List ℕ → List Ruling
-indexRulings p b = says 4 indexKind (Own (viewOf p b)) 1 (p .indexes + 1)
-    ∷ says 4 countKind (λ k. FreeChained (viewOf p b)) 0 1
-    ∷ says 5 indexKind (ChainLaw (viewOf p b)) 1 (p .indexes + 1)
-    ∷ says 6 indexKind (PointerLaw (viewOf p b)) 1 (p .indexes + 1)
+indexRulings p b = speaks 4 indexKind (Own (viewOf p b)) 1 (p .indexes + 1)
+    ∷ speaks 4 countKind (λ k. FreeChained (viewOf p b)) 0 1
+    ∷ speaks 5 indexKind (ChainLaw (viewOf p b)) 1 (p .indexes + 1)
+    ∷ speaks 6 indexKind (PointerLaw (viewOf p b)) 1 (p .indexes + 1)
     ∷ []
 
 abbrev pub fileRulings : Places → List ℕ → List Ruling
-fileRulings p b = says 7 sectorKind (SectorLaw (viewOf p b)) 1024 (1024 * (p .zones - 1))
-    ∷ says 8 indexKind (FileLaw (viewOf p b)) 1 (p .indexes + 1)
-    ∷ says 9 countKind (λ k. R9 (viewOf p b)) 0 1
+fileRulings p b = speaks 7 sectorKind (SectorLaw (viewOf p b)) 1024 (1024 * (p .zones - 1))
+    ∷ speaks 8 indexKind (FileLaw (viewOf p b)) 1 (p .indexes + 1)
+    ∷ speaks 9 countKind (λ k. R9 (viewOf p b)) 0 1
     ∷ []
 
 abbrev pub rulings : Places → List ℕ → List Ruling
@@ -109,6 +109,7 @@ abbrev pub BrokenIn : List Ruling → ℕ → ℕ → ℕ → Type 0
 BrokenIn [] rule kind place = ⊥
 BrokenIn (r ∷ rs) rule kind place = FailsAt r rule kind place ⊎ BrokenIn rs rule kind place
 
+-- of the nine rules
 abbrev pub Broken : Places → List ℕ → ℕ → ℕ → ℕ → Type 0
 Broken p b = BrokenIn (rulings p b)
 

@@ -73,11 +73,11 @@ static void list(uint32_t from) {
 }
 
 static void mark(const char *what, uint32_t id) {
-    say(what, isc_temporary_delete(books, sizeof books, id, date, sizeof date));
+    say(what, isc_temporary_delete(books, sizeof books, body, sizeof body, id, date, sizeof date));
 }
 
 static void give_back(const char *what, uint32_t id) {
-    say(what, isc_actual_delete(books, sizeof books, id, date, sizeof date));
+    say(what, isc_actual_delete(books, sizeof books, body, sizeof body, id, date, sizeof date));
 }
 
 static void protect(const char *what, uint32_t id, uint32_t weights) {
@@ -131,7 +131,7 @@ static void delete_and_recover(uint32_t id) {
     read_at("read deleted", id, 0, SIZE, 0, first);
     other = create("another curve", "CURVE 100A", 5000, 0);
     write_at("write another", other, 0, SIZE, 0, second);
-    say("recover", isc_recover(books, sizeof books, id, date, sizeof date));
+    say("recover", isc_recover(books, sizeof books, body, sizeof body, id, date, sizeof date));
     read_at("read recovered", id, 0, SIZE, 0, first);
     read_at("read another", other, 0, SIZE, 0, second);
     search("CURVE?");

@@ -4,9 +4,10 @@
    1,048,576 x (Z-2) bytes. docs/INTEGRATION.md says where both stand on the card and in which order to write
    them. The library keeps nothing from call to call.
 
-   Answers. Every function but isc_show_place and isc_show returns a number (enum isc_number), 0 for done. A
-   refusal alters no lent byte, and a value beside it is 0. The numbers that a function can answer are given
-   with it, in the order in which they are examined; "books" stands for 1, 2, 3, 4, 5 in that order.
+   Answers. Every function returns a number (enum isc_number), 0 for done, but isc_show_place, isc_show,
+   isc_header_place and isc_show_header, which hand back a part of the body. A refusal alters no lent byte, and
+   a value beside it is 0. The numbers that a function can answer are given with it, in the order in which they
+   are examined; "books" stands for 1, 2, 3, 4, 5 in that order.
 
    Slices. A slice is a pointer and a length in elements (for uint8_t that is bytes); an empty slice has a
    pointer that is not null. Slices that are lent at the same time must not overlap. A pointer to a value
@@ -16,6 +17,12 @@
 
    Dates. A date is the six bytes as they stand on the volume: year (two bytes, most significant first, 1 to
    9999), month, day, hour, minute. A slice of another length is refused as 7, like a date that is not valid.
+
+   Headers. A file may have a header beside its data: up to 32,762 bytes of the caller's, which the library keeps
+   and never looks into. It lies in the body, in 1 to 32 consecutive sectors of a zone of type B, which holds
+   headers alone: the file's id, the number of bytes, the bytes, then nulls (ISC_HEADER_...). It is placed and
+   replaced as a whole by isc_place_header and shown by isc_show_header. While its file is temporarily deleted it
+   holds minus the id; actual delete frees its sectors. Read, write, grow and locate see the data alone.
 
    What it needs: memcpy and memset, no other function; no heap, no operating system. Stack: up to 40 KiB a
    call (format 120 bytes, the creates 37 and 40 KiB, all others 37 KiB), but 49 KiB for the two that say
@@ -34,7 +41,7 @@ extern "C" {
 
 /* The version of the library. The minor number goes up with each change that docs/changes/ has a note of. */
 #define ISC_VERSION_MAJOR 1
-#define ISC_VERSION_MINOR 2
+#define ISC_VERSION_MINOR 3
 #define ISC_VERSION (ISC_VERSION_MAJOR * 1000 + ISC_VERSION_MINOR)
 
 /* What a request answers. isc_number_text gives the words. */
@@ -53,7 +60,7 @@ enum isc_number {
     ISC_FIXED = 11,        /* grow of a fixed file */
     ISC_NO_ROOM = 12,
     ISC_NO_INDEX = 13,     /* too few free index tables */
-    ISC_POSITION = 14,     /* position beyond the file */
+    ISC_POSITION = 14,     /* position beyond the file, or a file without a header */
     ISC_BODY_LENGTH = 15   /* body not 1,048,576 x (Z-2) bytes */
 };
 
@@ -74,6 +81,8 @@ enum {
     ISC_VOLUME_NAME_MOST = 32,
     ISC_OWNER_MOST = 32,
     ISC_OWNER_CODE_MOST = 32,
+    ISC_HEADER_MOST = 32762,      /* of a header's data */
+    ISC_HEADER_SECTORS_MOST = 32, /* sectors of a header */
     ISC_LIST_ENTRY = 64,          /* of one entry of isc_list */
     ISC_REPORT_TEXT = 192,        /* the least text that isc_report takes */
     ISC_BROKEN_TEXT = 64          /* the least text that isc_broken_text takes */
@@ -85,7 +94,8 @@ enum isc_kind { ISC_PLAIN = 0, ISC_DIRECTORY = 1, ISC_SYSTEM = 2 };
 /* Protections, for isc_set_protection: 0, either, or their sum. */
 enum isc_protection { ISC_UNPROTECTED = 0, ISC_WRITE_PROTECTED = 4, ISC_READ_PROTECTED = 8 };
 
-/* Zone types, for the flag of isc_create_fixed: any sum of these, or ISC_TYPES_ALL. */
+/* Zone types, for the flag of isc_create_fixed: any sum of these, or ISC_TYPES_ALL. Type B is none of them: its zones
+   hold headers, never a file's data. */
 enum isc_type {
     ISC_TYPES_ALL = 0,
     ISC_TYPE_C = 4,
@@ -114,7 +124,14 @@ enum {
     ISC_ENTRY_CHANGED = 34,    /* a date */
     ISC_ENTRY_LENGTH = 40,     /* 4 bytes: the byte length */
     ISC_ENTRY_ATTRIBUTE = 44,  /* 2 bytes: a sum of the weights below */
-    ISC_ENTRY_HEADER = 58      /* 6 bytes: a pointer, always zero in this version */
+    ISC_ENTRY_HEADER = 58      /* 6 bytes: the header's first sector (4) and how many (2); zeros without a header */
+};
+
+/* Where the fields of a header stand, from the start of its first sector. Numbers are most significant byte first. */
+enum {
+    ISC_HEADER_ID = 0,      /* 4 bytes: the file's id, minus the id while it is temporarily deleted */
+    ISC_HEADER_LENGTH = 4,  /* 2 bytes: how many bytes of data there are */
+    ISC_HEADER_DATA = 6     /* the data, then nulls up to the end of the last sector */
 };
 
 /* Weights of the attribute. */
@@ -149,7 +166,7 @@ static inline const char *isc_number_text(uint32_t number) {
     case ISC_FIXED: return "a file of fixed size cannot grow";
     case ISC_NO_ROOM: return "there is no room on the volume";
     case ISC_NO_INDEX: return "too few index tables are free";
-    case ISC_POSITION: return "the position is beyond the file";
+    case ISC_POSITION: return "the position is beyond the file, or the file has no header";
     case ISC_BODY_LENGTH: return "the body has the wrong length";
     default: return "no number of this library";
     }
@@ -161,12 +178,12 @@ static inline const char *isc_rule_text(uint32_t rule) {
     switch (rule) {
     case 0: return "no rule is broken";
     case 1: return "the zone table and the sector table end in nulls";
-    case 2: return "zones 1 and Z read as the tables' own and are in use, every other is empty or of type C to H";
+    case 2: return "zones 1 and Z read as the tables' own and are in use, every other is empty or of type B to H";
     case 3: return "each block is wholly in use or wholly free, and each zone's free count is true";
     case 4: return "each index table is free, a parent or a child, and the free chain meets each free one once";
     case 5: return "every child stands once in the chains, names its parent, has a pointer; all before it are full";
-    case 6: return "used pointers come first, over whole blocks of types C to H; a file has one, and no header";
-    case 7: return "no sector is under two pointers, and those in use are those under pointers";
+    case 6: return "used pointers come first, in whole blocks of types C to H; a file has one; headers lie in B zones";
+    case 7: return "no sector is under two pointers, headers' too, and those in use are those under pointers";
     case 8: return "each file's name, length, attribute and dates are allowed; a variable file has one zone type";
     case 9: return "the counts of sector 1 are true, and the flag is 0 or 1";
     default: return "no rule of this format";
@@ -227,21 +244,24 @@ uint32_t isc_create_variable(uint8_t *books, size_t books_len,
 uint32_t isc_grow(uint8_t *books, size_t books_len, uint32_t id, int32_t length,
                   const uint8_t *date, size_t date_len);
 
-/* Marks an active file as deleted; its id, pointers and data stay. Numbers: books, 7, 8, 9,
+/* Marks an active file as deleted; its id, pointers and data stay. Numbers: books, 7, 15, 8, 9,
    10 (write-protected).
+   body   gets minus the id into the first four bytes of the file's header, and stays as it is if there is none
    date   becomes the change date and the latest update */
-uint32_t isc_temporary_delete(uint8_t *books, size_t books_len, uint32_t id,
-                              const uint8_t *date, size_t date_len);
+uint32_t isc_temporary_delete(uint8_t *books, size_t books_len, uint8_t *body, size_t body_len,
+                              uint32_t id, const uint8_t *date, size_t date_len);
 
-/* Makes a temporarily deleted file active again. Numbers: books, 7, 8, 9.
+/* Makes a temporarily deleted file active again. Numbers: books, 7, 15, 8, 9.
+   body   gets the id into the first four bytes of the file's header, if it has one
    date   as for isc_temporary_delete */
-uint32_t isc_recover(uint8_t *books, size_t books_len, uint32_t id,
-                     const uint8_t *date, size_t date_len);
+uint32_t isc_recover(uint8_t *books, size_t books_len, uint8_t *body, size_t body_len,
+                     uint32_t id, const uint8_t *date, size_t date_len);
 
-/* Gives a temporarily deleted file's blocks and index tables back. Numbers: books, 7, 8, 9.
+/* Gives a temporarily deleted file's blocks, header and index tables back. Numbers: books, 7, 15, 8, 9.
+   body   gets 0 into the first four bytes of the file's header, if it has one
    date   becomes the latest update */
-uint32_t isc_actual_delete(uint8_t *books, size_t books_len, uint32_t id,
-                           const uint8_t *date, size_t date_len);
+uint32_t isc_actual_delete(uint8_t *books, size_t books_len, uint8_t *body, size_t body_len,
+                           uint32_t id, const uint8_t *date, size_t date_len);
 
 /* Replaces an active file's protection. Numbers: books, 7, 8, 9.
    protection   0, 4, 8 or 12 (enum isc_protection)
@@ -326,6 +346,18 @@ uint32_t isc_write(uint8_t *books, size_t books_len,
                    const uint8_t *in, size_t in_len,
                    const uint8_t *date, size_t date_len, uint32_t *moved);
 
+/* Gives an active file a header, or another one in place of the one that it has. It gets the fewest sectors that
+   hold its 6 + data_len bytes, 1 to 32, in a row: the lowest that are free in the lowest zone of type B that is in
+   use and has them, else the first ones of the lowest zone that is wholly free, which then is of type B. A header
+   that is replaced keeps its sectors until the new one has its own, so both need room for a moment; then they are
+   free, and its id is 0. Numbers: books, 7, 15, 8, 9, 10 (write-protected), 12.
+   body   gets the id, the length, the data and the nulls after it, in whole sectors, and the 0 of a replaced header
+   data   at most 32,762 bytes, also none
+   date   becomes the change date and the latest update */
+uint32_t isc_place_header(uint8_t *books, size_t books_len, uint8_t *body, size_t body_len,
+                          uint32_t id, const uint8_t *data, size_t data_len,
+                          const uint8_t *date, size_t date_len);
+
 /* A part of the body by its place: `len` bytes from body[at] on. */
 typedef struct {
     size_t at;
@@ -342,6 +374,17 @@ isc_place isc_show_place(const uint8_t *books, size_t books_len,
 uint32_t isc_show_number(const uint8_t *books, size_t books_len,
                          const uint8_t *body, size_t body_len, uint32_t id, uint32_t k);
 
+/* Shows the header of an active file as it lies in the body: the place of its whole sectors, ISC_SECTOR to
+   ISC_HEADER_SECTORS_MOST x ISC_SECTOR bytes, or on a refusal no bytes, at 0. isc_header_number with the same arguments
+   gives the number. */
+isc_place isc_header_place(const uint8_t *books, size_t books_len,
+                           const uint8_t *body, size_t body_len, uint32_t id);
+
+/* The number of isc_header_place and isc_show_header. Numbers: books, 15, 8, 9, 10 (read-protected), 14 (the file has
+   no header). */
+uint32_t isc_header_number(const uint8_t *books, size_t books_len,
+                           const uint8_t *body, size_t body_len, uint32_t id);
+
 /* A part of the body itself. */
 typedef struct {
     const uint8_t *at;
@@ -352,6 +395,17 @@ typedef struct {
 static inline isc_part isc_show(const uint8_t *books, size_t books_len,
                                 const uint8_t *body, size_t body_len, uint32_t id, uint32_t k) {
     isc_place place = isc_show_place(books, books_len, body, body_len, id, k);
+    isc_part part;
+    part.at = body + place.at;
+    part.len = place.len;
+    return part;
+}
+
+/* isc_header_place, as a part of the body that was lent. The data begin at ISC_HEADER_DATA. What another program put
+   there may say a length that the part does not hold. */
+static inline isc_part isc_show_header(const uint8_t *books, size_t books_len,
+                                       const uint8_t *body, size_t body_len, uint32_t id) {
+    isc_place place = isc_header_place(books, books_len, body, body_len, id);
     isc_part part;
     part.at = body + place.at;
     part.len = place.len;

@@ -24,9 +24,10 @@ static const struct command commands[] = {
      "--force        formats a file or card that exists, if it has just this size; its files are lost\n" DATE_HELP},
     {"info", run_info, 1, 1, 0, "IMAGE", "Prints the volume's label, its counts, and its space.\n"},
     {"ls", run_ls, 1, 2, TAKES(OPTION_DELETED), "IMAGE [PATTERN | --deleted]",
-     "Lists the files: id, bytes, whether the size is fixed or variable, kind, protection (R: no reading, W: no\n"
-     "writing), date of the last change, name. In a name \\x and two digits stand for a byte that is no printable\n"
-     "ASCII, and two backslashes for one.\n\n"
+     "Lists the files: id, bytes, bytes of the header (- without one, ? where it says more than its sectors hold),\n"
+     "whether the size is fixed or variable, kind, protection (R: no reading, W: no writing), date of the last\n"
+     "change, name. In a name \\x and two digits stand for a byte that is no printable ASCII, and two backslashes\n"
+     "for one.\n\n"
      "PATTERN        lists only the files whose names match: * is one character, ? is any string, also none\n"
      "--deleted      lists the temporarily deleted files instead\n"},
     {"put", run_put, 2, 2,
@@ -41,6 +42,13 @@ static const struct command commands[] = {
      "--kind KIND      plain, directory or system; without it plain\n" DATE_HELP},
     {"get", run_get, 2, 3, 0, "IMAGE ID|NAME [FILE]",
      "Copies a file to FILE, or to standard output without one, with exactly its byte length.\n" WORD_HELP},
+    {"header put", run_header_put, 3, 3, TAKES(OPTION_DATE), "IMAGE ID|NAME FILE [--date DATE]",
+     "Gives a file a header: the bytes of FILE, or of standard input if it is -, up to 32,762 of them. They are kept\n"
+     "beside the file's own bytes, in a zone of type B, and take the place of a header that it has.\n" WORD_HELP
+         DATE_HELP},
+    {"header get", run_header_get, 2, 3, 0, "IMAGE ID|NAME [FILE]",
+     "Copies a file's header to FILE, or to standard output without one, with exactly the bytes that were put.\n"
+         WORD_HELP},
     {"rm", run_rm, 2, 2, TAKES(OPTION_DATE), "IMAGE ID|NAME [--date DATE]",
      "Deletes a file temporarily: it keeps its space, and recover brings it back.\n" WORD_HELP DATE_HELP},
     {"recover", run_recover, 2, 2, TAKES(OPTION_DATE), "IMAGE ID|NAME [--date DATE]",
@@ -56,12 +64,13 @@ static const struct command commands[] = {
      "Says that all book rules hold and that the backup is equal to zone 1, or what fails. Where zone 1's tables\n"
      "break a book rule, it names the lowest one, R1 to R9, and in it the lowest zone, sector or index table.\n"},
     {"map", run_map, 1, 1, TAKES(OPTION_SVG), "IMAGE [--svg FILE]",
-     "Draws each zone with its type (C to H; . for an open zone, - for the tables' own), its blocks in use and\n"
-     "free, and its sectors.\n\n"
+     "Draws each zone with its type (B for headers, C to H for data; . for an open zone, - for the tables' own), its\n"
+     "blocks in use and free, and its sectors.\n\n"
      "--svg FILE     draws which file has which sector, as a picture\n"},
     {"repair", run_repair, 1, 1, TAKES(OPTION_FROM_BACKUP), "IMAGE [--from-backup]",
-     "Makes zone 1 and the backup whole and equal again after a power cut, and dismounts a volume that was left\n"
-     "mounted. A whole zone 1 is what counts; where it is not whole the backup is. Says what it did.\n\n"
+     "Makes zone 1 and the backup whole and equal again after a power cut, with the ids in headers as they say, and\n"
+     "dismounts a volume that was left mounted. A whole zone 1 is what counts; where it is not whole the backup is.\n"
+     "Says what it did.\n\n"
      "--from-backup  takes the backup's tables, if they are lawful, whatever zone 1 has\n"},
 };
 
@@ -76,12 +85,38 @@ static void print_general_help(void) {
          "The exit status is 0 for done, 1 for refused or failed, 2 for wrong usage.");
 }
 
-static const struct command *find_command(const char *name) {
+/* How many of the words make up a name of one word or more: 0 if they do not begin with it. */
+static int name_words(const char *name, int count, char **words) {
+    int used;
+    for (used = 0; used < count; used++) {
+        size_t length = strlen(words[used]);
+        if (strncmp(name, words[used], length) != 0 || (name[length] != '\0' && name[length] != ' '))
+            return 0;
+        if (name[length] == '\0')
+            return used + 1;
+        name += length + 1;
+    }
+    return 0;
+}
+
+/* The command that the words begin with, and how many of them name it. */
+static const struct command *find_command(int count, char **words, int *named) {
     size_t i;
-    for (i = 0; i < COMMANDS; i++)
-        if (strcmp(commands[i].name, name) == 0)
+    for (i = 0; i < COMMANDS; i++) {
+        *named = name_words(commands[i].name, count, words);
+        if (*named > 0)
             return &commands[i];
+    }
     return NULL;
+}
+
+/* Of words that name no command: the first may be the first of a name. */
+static int refuse_name(const char *word) {
+    size_t i, length = strlen(word);
+    for (i = 0; i < COMMANDS; i++)
+        if (strncmp(commands[i].name, word, length) == 0 && commands[i].name[length] == ' ')
+            return say_misuse("%s needs another word, as in `card %s`", word, commands[i].name);
+    return say_misuse("there is no command %s", word);
 }
 
 static int run_command(const struct command *command, int count, char **words) {
@@ -107,6 +142,7 @@ static int close_output(int status) {
 
 int main(int count, char **words) {
     const struct command *command;
+    int named;
     image_watch();
     if (count < 2)
         return say_misuse("a command is needed");
@@ -118,8 +154,8 @@ int main(int count, char **words) {
         printf("card %d.%d\n", ISC_VERSION_MAJOR, ISC_VERSION_MINOR);
         return close_output(CARD_DONE);
     }
-    command = find_command(words[1]);
+    command = find_command(count - 1, words + 1, &named);
     if (command == NULL)
-        return say_misuse("there is no command %s", words[1]);
-    return close_output(run_command(command, count - 2, words + 2));
+        return refuse_name(words[1]);
+    return close_output(run_command(command, count - 1 - named, words + 1 + named));
 }

@@ -19,6 +19,12 @@ uint32_t books_u32(const uint8_t *at) {
     return books_u16(at) << 16 | books_u16(at + 2);
 }
 
+void books_put_u32(uint8_t *at, uint32_t number) {
+    int i;
+    for (i = 0; i < 4; i++)
+        at[i] = (uint8_t)(number >> (24 - 8 * i));
+}
+
 size_t books_sectors(const uint8_t *copy, size_t length) {
     uint64_t sectors;
     if (length < 2 * ISC_SECTOR)
@@ -44,13 +50,14 @@ uint32_t books_zones(const uint8_t *books) {
 
 char books_zone_letter(const uint8_t *books, uint32_t zone) {
     uint32_t type = books_u16(zone_entry(books, zone));
-    if (type >= ZONE_TYPE_C && type <= ZONE_TYPE_H)
-        return (char)('C' + (type - ZONE_TYPE_C));
+    if (type >= ZONE_TYPE_B && type <= ZONE_TYPE_H)
+        return (char)('B' + (type - ZONE_TYPE_B));
     return type == ZONE_OPEN ? '.' : '-';
 }
 
 uint32_t books_block(const uint8_t *books, uint32_t zone) {
-    return 1u << 2 * (books_u16(zone_entry(books, zone)) - ZONE_TYPE_C);
+    uint32_t type = books_u16(zone_entry(books, zone));
+    return type == ZONE_TYPE_B ? 1 : 1u << 2 * (type - ZONE_TYPE_C);
 }
 
 uint32_t books_free_blocks(const uint8_t *books, uint32_t zone) {
@@ -71,6 +78,12 @@ const uint8_t *books_index(const uint8_t *books, uint32_t index) {
 
 int books_is_file(const uint8_t *books, uint32_t index) {
     return books_u32(books_index(books, index) + ISC_ENTRY_ID) == index;
+}
+
+int books_header(const uint8_t *entry, uint32_t *start, uint32_t *count) {
+    *start = books_u32(entry + ISC_ENTRY_HEADER);
+    *count = books_u16(entry + ISC_ENTRY_HEADER + POINTER_COUNT);
+    return *count != 0;
 }
 
 void runs_start(struct run_walk *walk, const uint8_t *books, uint32_t file) {

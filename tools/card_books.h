@@ -26,12 +26,13 @@ enum {
 /* Where the fields of sector 1 stand, from the start of the books. */
 enum { STATE_INDEXES = ISC_SECTOR, STATE_LATEST_UPDATE = ISC_SECTOR + 20 };
 
-/* Types of zone besides the letters C to H, which are 3 to 8. */
-enum { ZONE_OPEN = 0, ZONE_BOOKS = 1, ZONE_TYPE_C = 3, ZONE_TYPE_H = 8 };
+/* Types of zone: the letters B to H are 2 to 8. */
+enum { ZONE_OPEN = 0, ZONE_BOOKS = 1, ZONE_TYPE_B = 2, ZONE_TYPE_C = 3, ZONE_TYPE_H = 8 };
 
 /* Numbers, most significant byte first. */
 uint32_t books_u16(const uint8_t *at);
 uint32_t books_u32(const uint8_t *at);
+void books_put_u32(uint8_t *at, uint32_t number);
 
 /* S, the sectors that the tables reach to, of a copy of zone 1 of which `length` bytes are there. The copy may have any
    content: the answer is from 5 to 1,024, and the library refuses what makes no sense. */
@@ -41,7 +42,7 @@ size_t books_sectors(const uint8_t *copy, size_t length);
 uint32_t books_zones(const uint8_t *books);
 char books_zone_letter(const uint8_t *books, uint32_t zone);
 
-/* The sectors of a block in a zone of type C to H, and how many of its blocks are free. */
+/* The sectors of a block in a zone of type B to H, and how many of its blocks are free. */
 uint32_t books_block(const uint8_t *books, uint32_t zone);
 uint32_t books_free_blocks(const uint8_t *books, uint32_t zone);
 
@@ -53,7 +54,10 @@ uint32_t books_indexes(const uint8_t *books);
 const uint8_t *books_index(const uint8_t *books, uint32_t index);
 int books_is_file(const uint8_t *books, uint32_t index);
 
-/* A walk along the runs of sectors of a file, in the file's order. */
+/* The sectors of the header of a file, by its parent index or its entry of isc_list: returns 1 if it has one. */
+int books_header(const uint8_t *entry, uint32_t *start, uint32_t *count);
+
+/* A walk along the runs of sectors of a file's data, in the file's order. */
 struct run_walk {
     const uint8_t *books;
     const uint8_t *pointer; /* the next one; null at the end */

@@ -1,4 +1,4 @@
-/* rm, recover, purge and protect: requests that change a file's tables and none of its bytes. */
+/* rm, recover, purge and protect: requests that change a file's tables, and of its bytes only the id in its header. */
 #include "card_commands.h"
 #include "card_entries.h"
 #include "card_say.h"
@@ -10,18 +10,18 @@ typedef uint32_t change(const struct request *request, struct volume *volume, ui
 static uint32_t delete_temporarily(const struct request *request, struct volume *volume, uint32_t id,
                                    const uint8_t *date) {
     (void)request;
-    return isc_temporary_delete(volume->books, volume->books_len, id, date, ISC_DATE);
+    return isc_temporary_delete(volume->books, volume->books_len, volume->body, volume->body_len, id, date, ISC_DATE);
 }
 
 static uint32_t recover(const struct request *request, struct volume *volume, uint32_t id, const uint8_t *date) {
     (void)request;
-    return isc_recover(volume->books, volume->books_len, id, date, ISC_DATE);
+    return isc_recover(volume->books, volume->books_len, volume->body, volume->body_len, id, date, ISC_DATE);
 }
 
 static uint32_t delete_actually(const struct request *request, struct volume *volume, uint32_t id,
                                 const uint8_t *date) {
     (void)request;
-    return isc_actual_delete(volume->books, volume->books_len, id, date, ISC_DATE);
+    return isc_actual_delete(volume->books, volume->books_len, volume->body, volume->body_len, id, date, ISC_DATE);
 }
 
 static uint32_t protect(const struct request *request, struct volume *volume, uint32_t id, const uint8_t *date) {
@@ -46,7 +46,7 @@ static int run_change(const struct request *request, enum state state, change *c
     status = entries_find(&volume, state, request->operands[1], &id);
     if (status == CARD_DONE) {
         number = change_it(request, &volume, id, date);
-        status = number == ISC_DONE ? volume_save(&volume, 0) : say_refusal(number);
+        status = number == ISC_DONE ? volume_save(&volume, id, PART_HEADER) : say_refusal(number);
     }
     volume_close(&volume);
     return status;

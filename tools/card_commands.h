@@ -7,6 +7,8 @@
 int run_check(const struct request *request);
 int run_format(const struct request *request);
 int run_get(const struct request *request);
+int run_header_get(const struct request *request);
+int run_header_put(const struct request *request);
 int run_info(const struct request *request);
 int run_ls(const struct request *request);
 int run_map(const struct request *request);

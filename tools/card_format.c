@@ -71,7 +71,7 @@ int run_format(const struct request *request) {
         return status;
     memcpy(image.now, books, books_len);
     memcpy(image.now + image_backup(&image), image.now, ISC_ZONE);
-    status = save_copies(&image, COPY_ZONE_1);
+    status = save_copies(&image, COPY_ZONE_1, 0);
     if (status != CARD_DONE && made)
         unlink(request->operands[0]);
     image_close(&image);

@@ -7,9 +7,6 @@
 #include "card_say.h"
 #include "card_volume.h"
 
-#include <string.h>
-#include <unistd.h>
-
 static uint32_t read_part(const struct volume *volume, uint32_t id, size_t at, size_t length, uint8_t *part,
                           uint32_t *moved) {
     return isc_read(volume->books, volume->books_len, volume->body, volume->body_len, id, (int32_t)at,
@@ -23,7 +20,7 @@ static uint32_t may_read(const struct volume *volume, uint32_t id) {
     return number == ISC_POSITION ? (uint32_t)ISC_DONE : number;
 }
 
-static int copy_out(const struct volume *volume, uint32_t id, int file, const char *path) {
+static int copy_out(const struct volume *volume, uint32_t id, const struct sink *sink) {
     static uint8_t part[PROGRESS_STEP];
     size_t length = books_u32(books_index(volume->books, id) + ISC_ENTRY_LENGTH), at = 0;
     struct progress progress;
@@ -32,7 +29,7 @@ static int copy_out(const struct volume *volume, uint32_t id, int file, const ch
     while (at < length && status == CARD_DONE) {
         uint32_t moved, number = read_part(volume, id, at, sizeof part, part, &moved);
         size_t wanted = length - at < moved ? length - at : moved;
-        status = number == ISC_DONE ? output_write(file, path, part, wanted) : say_refusal(number);
+        status = number == ISC_DONE ? sink_write(sink, part, wanted) : say_refusal(number);
         at += wanted;
         progress_at(&progress, at);
     }
@@ -41,19 +38,13 @@ static int copy_out(const struct volume *volume, uint32_t id, int file, const ch
 }
 
 static int get(const struct volume *volume, uint32_t id, const char *path) {
-    int file, status;
+    struct sink sink;
     uint32_t number = may_read(volume, id);
+    int status;
     if (number != ISC_DONE)
         return say_refusal(number);
-    if (path == NULL || strcmp(path, "-") == 0)
-        return copy_out(volume, id, STDOUT_FILENO, "standard output");
-    status = output_open(&volume->image, path, &file);
-    if (status != CARD_DONE)
-        return status;
-    status = copy_out(volume, id, file, path);
-    if (close(file) != 0 && status == CARD_DONE)
-        status = say_system(path);
-    return status;
+    status = sink_open(&sink, &volume->image, path);
+    return status == CARD_DONE ? sink_close(&sink, copy_out(volume, id, &sink)) : status;
 }
 
 int run_get(const struct request *request) {

@@ -2,6 +2,7 @@
 #include "card_books.h"
 #include "card_commands.h"
 #include "card_entries.h"
+#include "card_headers.h"
 #include "card_say.h"
 #include "card_text.h"
 #include "card_volume.h"
@@ -87,25 +88,38 @@ static const char *kind_word(uint32_t attribute) {
     return (attribute & ISC_WEIGHT_SYSTEM) != 0 ? "system" : "plain";
 }
 
-static void print_entry(const uint8_t *entry) {
+/* The bytes of a file's header; - where there is none, ? where it says more than its sectors hold. */
+static void show_header(const struct volume *volume, const uint8_t *entry, char *shown, size_t room) {
+    uint32_t length;
+    enum header header = headers_look(volume->body, entry, &length);
+    if (header == HEADER_SOUND)
+        snprintf(shown, room, "%u", (unsigned)length);
+    else
+        snprintf(shown, room, "%c", header == HEADER_NONE ? '-' : '?');
+}
+
+static void print_entry(const struct volume *volume, const uint8_t *entry) {
     uint32_t attribute = books_u16(entry + ISC_ENTRY_ATTRIBUTE);
-    char name[TEXT_SHOWN], changed[TEXT_DATE];
+    char name[TEXT_SHOWN], changed[TEXT_DATE], header[12];
+    show_header(volume, entry, header, sizeof header);
     text_show(entry + ISC_ENTRY_NAME, ISC_NAME_MOST, name);
     text_show_date(entry + ISC_ENTRY_CHANGED, changed);
-    printf("%5u %10u  %-8s  %-9s  %c%c  %s  %s\n", (unsigned)books_u32(entry + ISC_ENTRY_ID),
-           (unsigned)books_u32(entry + ISC_ENTRY_LENGTH), (attribute & ISC_WEIGHT_VARIABLE) != 0 ? "variable" : "fixed",
-           kind_word(attribute), (attribute & ISC_WEIGHT_READ_PROTECTED) != 0 ? 'R' : '-',
+    printf("%5u %10u  %6s  %-8s  %-9s  %c%c  %s  %s\n", (unsigned)books_u32(entry + ISC_ENTRY_ID),
+           (unsigned)books_u32(entry + ISC_ENTRY_LENGTH), header,
+           (attribute & ISC_WEIGHT_VARIABLE) != 0 ? "variable" : "fixed", kind_word(attribute),
+           (attribute & ISC_WEIGHT_READ_PROTECTED) != 0 ? 'R' : '-',
            (attribute & ISC_WEIGHT_WRITE_PROTECTED) != 0 ? 'W' : '-', changed, name);
 }
 
 /* Prints the entries whose ids are in `ids`, or all if that is null; both ascend. */
-static void print_entries(const struct entries *entries, const uint32_t *ids, uint32_t count) {
+static void print_entries(const struct volume *volume, const struct entries *entries, const uint32_t *ids,
+                          uint32_t count) {
     uint32_t i, next = 0;
-    puts("   id      bytes  size      kind       RW  changed           name");
+    puts("   id      bytes  header  size      kind       RW  changed           name");
     for (i = 0; i < entries->count; i++) {
         uint32_t id = books_u32(entries_at(entries, i) + ISC_ENTRY_ID);
         if (ids == NULL || (next < count && ids[next] == id)) {
-            print_entry(entries_at(entries, i));
+            print_entry(volume, entries_at(entries, i));
             next++;
         }
     }
@@ -118,7 +132,7 @@ static int print_matching(const struct volume *volume, const char *pattern, cons
                                  ISC_INDEXES_MOST, &count);
     if (number != ISC_DONE)
         return say_refusal(number);
-    print_entries(entries, ids, count);
+    print_entries(volume, entries, ids, count);
     return CARD_DONE;
 }
 
@@ -138,7 +152,7 @@ int run_ls(const struct request *request) {
         if (pattern != NULL)
             status = print_matching(&volume, pattern, &entries);
         else
-            print_entries(&entries, NULL, 0);
+            print_entries(&volume, &entries, NULL, 0);
         entries_drop(&entries);
     }
     volume_close(&volume);

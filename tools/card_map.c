@@ -28,7 +28,7 @@ static void print_zone(const uint8_t *books, uint32_t zone) {
     for (i = 0; i < MARKS; i++)
         bar[i] = mark_of(books, ISC_ZONE_SECTORS * (zone - 1) + MARK_SECTORS * i);
     bar[MARKS] = '\0';
-    if (letter >= 'C' && letter <= 'H') {
+    if (letter >= 'B' && letter <= 'H') {
         uint32_t blocks = ISC_ZONE_SECTORS / books_block(books, zone), free = books_free_blocks(books, zone);
         printf("%4u  %c   %4u  %4u  %s\n", (unsigned)zone, letter, (unsigned)(blocks - free), (unsigned)free, bar);
     } else {

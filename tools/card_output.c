@@ -4,6 +4,7 @@
 
 #include <errno.h>
 #include <fcntl.h>
+#include <string.h>
 #include <sys/stat.h>
 #include <unistd.h>
 
@@ -40,4 +41,23 @@ int output_write(int file, const char *path, const uint8_t *bytes, size_t length
         }
     }
     return CARD_DONE;
+}
+
+int sink_open(struct sink *sink, const struct image *image, const char *path) {
+    sink->path = path;
+    if (path != NULL && strcmp(path, "-") != 0)
+        return output_open(image, path, &sink->file);
+    sink->path = "standard output";
+    sink->file = STDOUT_FILENO;
+    return CARD_DONE;
+}
+
+int sink_write(const struct sink *sink, const uint8_t *bytes, size_t length) {
+    return output_write(sink->file, sink->path, bytes, length);
+}
+
+int sink_close(const struct sink *sink, int status) {
+    if (sink->file != STDOUT_FILENO && close(sink->file) != 0 && status == CARD_DONE)
+        return say_system(sink->path);
+    return status;
 }

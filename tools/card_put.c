@@ -1,16 +1,13 @@
 /* put: stores a file on a volume. Everything happens in memory first, so a refusal leaves the image as it was. */
 #include "card_commands.h"
+#include "card_input.h"
 #include "card_progress.h"
 #include "card_say.h"
 #include "card_text.h"
 #include "card_volume.h"
 
-#include <errno.h>
-#include <fcntl.h>
 #include <stdio.h>
-#include <stdlib.h>
 #include <string.h>
-#include <unistd.h>
 
 /* What is asked for. */
 struct wish {
@@ -20,13 +17,6 @@ struct wish {
     int32_t types; /* of a fixed one */
     uint32_t kind;
     uint8_t date[ISC_DATE];
-};
-
-/* The bytes to store, with nulls up to a whole sector after them. */
-struct input {
-    uint8_t *bytes;
-    size_t length;
-    size_t padded;
 };
 
 static int take_types(const char *letters, int32_t *types) {
@@ -70,55 +60,6 @@ static int take_wish(const struct request *request, struct wish *wish) {
     if (status == CARD_DONE)
         status = take_kind(request->options[OPTION_KIND], &wish->kind);
     return status == CARD_DONE ? request_date(request, wish->date) : status;
-}
-
-/* Makes more room where there is none left, in whole steps, so that a last sector always has its nulls. */
-static int make_room(struct input *input, size_t *room) {
-    size_t more = *room == 0 ? PROGRESS_STEP : 2 * *room;
-    uint8_t *bytes;
-    if (input->length < *room)
-        return CARD_DONE;
-    bytes = realloc(input->bytes, more);
-    if (bytes == NULL)
-        return say_system("the file in memory");
-    memset(bytes + *room, 0, more - *room);
-    input->bytes = bytes;
-    *room = more;
-    return CARD_DONE;
-}
-
-/* Reads to the end, or until there is more than `most`: that much has no room, which is the library's to say. */
-static int read_all(int file, const char *path, size_t most, struct input *input) {
-    size_t room = 0;
-    ssize_t part = 1;
-    while (part != 0 && input->length <= most) {
-        if (make_room(input, &room) != CARD_DONE)
-            return CARD_REFUSED;
-        do
-            part = read(file, input->bytes + input->length, room - input->length);
-        while (part < 0 && errno == EINTR);
-        if (part < 0)
-            return say_system(path);
-        input->length += (size_t)part;
-    }
-    input->padded = (input->length + ISC_SECTOR - 1) / ISC_SECTOR * ISC_SECTOR;
-    return CARD_DONE;
-}
-
-static int take_input(const struct volume *volume, const char *path, struct input *input) {
-    int file, status;
-    memset(input, 0, sizeof *input);
-    if (strcmp(path, "-") == 0)
-        return read_all(STDIN_FILENO, "standard input", volume->body_len, input);
-    file = open(path, O_RDONLY);
-    if (file < 0)
-        return say_system(path);
-    if (image_is_file(&volume->image, file))
-        status = say_failure("%s is the image itself", path);
-    else
-        status = read_all(file, path, volume->body_len, input);
-    close(file);
-    return status;
 }
 
 static uint32_t create(struct volume *volume, const struct wish *wish, const struct input *input, uint32_t *id) {
@@ -165,7 +106,7 @@ static int put(struct volume *volume, const struct wish *wish, const struct inpu
     int status;
     if (number != ISC_DONE)
         return refuse(number);
-    status = volume_save(volume, id);
+    status = volume_save(volume, id, PART_DATA);
     if (status != CARD_DONE)
         return status;
     printf("%u\n", (unsigned)id);
@@ -184,10 +125,10 @@ int run_put(const struct request *request) {
         status = volume_open(&volume, request->operands[0], ACCESS_WRITE);
     if (status != CARD_DONE)
         return status;
-    status = take_input(&volume, request->operands[1], &input);
+    status = input_take(&volume.image, request->operands[1], volume.body_len, &input);
     if (status == CARD_DONE)
         status = put(&volume, &wish, &input);
-    free(input.bytes);
+    input_drop(&input);
     volume_close(&volume);
     return status;
 }

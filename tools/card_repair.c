@@ -1,5 +1,7 @@
-/* repair: makes zone 1 and the backup whole and equal again, and dismounts a volume that was left mounted. */
+/* repair: makes zone 1 and the backup whole and equal again, puts the ids in headers right, and dismounts a volume that
+   was left mounted. */
 #include "card_commands.h"
+#include "card_headers.h"
 #include "card_image.h"
 #include "card_save.h"
 #include "card_say.h"
@@ -42,11 +44,17 @@ static int make_equal(const struct image *image, enum copy source) {
 static int repair(const struct image *image, enum copy source) {
     int equal = memcmp(image->before, image->before + image_backup(image), ISC_ZONE) == 0;
     int mounted = make_equal(image, source);
-    int status = save_copies(image, source);
+    uint32_t headers = 0;
+    /* Before the copies: as long as they differ, a repair that is cut off is asked for again. */
+    int status = equal ? CARD_DONE : headers_put_right(image, &headers);
+    if (status == CARD_DONE)
+        status = save_copies(image, source, 0);
     if (status != CARD_DONE)
         return status;
     if (!equal)
         puts(source == COPY_BACKUP ? "zone 1 was made from the backup" : "the backup was made from zone 1");
+    if (headers > 0)
+        printf("headers whose id was put right: %u\n", (unsigned)headers);
     if (mounted)
         puts("the volume had been left mounted, and was dismounted");
     if (equal && !mounted)

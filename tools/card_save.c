@@ -2,7 +2,9 @@
 
    Each step is forced out before the next. While a copy of zone 1 is written its mark is broken, so a copy that has its
    mark is whole; and since the copies are written one after the other, at any moment one of them is. The body comes
-   before both: only sectors that are free in the old books change there. */
+   before both: only sectors that are free in the old books change there. But for the id in a header that the old books
+   have: it is written between the copies, when they differ whatever happens next, so that repair is asked for and puts
+   the id in step with the copy that it takes. */
 #include "card_save.h"
 #include "card_books.h"
 #include "card_say.h"
@@ -75,9 +77,17 @@ static int write_copy(const struct image *image, size_t at) {
     return status;
 }
 
-int save_copies(const struct image *image, enum copy last) {
+int save_sector(const struct image *image, size_t at) {
+    size_t written = 0;
+    int status = save_part(image, at, ISC_SECTOR, &written);
+    return status == CARD_DONE && written > 0 ? save_force(image) : status;
+}
+
+int save_copies(const struct image *image, enum copy last, size_t between) {
     size_t backup = image_backup(image);
     int status = write_copy(image, last == COPY_ZONE_1 ? backup : 0);
+    if (status == CARD_DONE && between != 0)
+        status = save_sector(image, between);
     if (status == CARD_DONE)
         status = write_copy(image, last == COPY_ZONE_1 ? 0 : backup);
     if (status != CARD_DONE)

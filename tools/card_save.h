@@ -14,8 +14,11 @@ int save_part(const struct image *image, size_t at, size_t length, size_t *writt
 /* Waits until what was written is on the card. */
 int save_force(const struct image *image);
 
+/* Writes a sector if it differs from the file, and waits. */
+int save_sector(const struct image *image, size_t at);
+
 /* Writes what differs in the two copies, the one that is not `last` first: `last` is the one that has to be whole until
-   the other one is. */
-int save_copies(const struct image *image, enum copy last);
+   the other one is. Between the two comes the sector of the body at `between`, or none if that is 0. */
+int save_copies(const struct image *image, enum copy last, size_t between);
 
 #endif

@@ -57,17 +57,18 @@ static void put_place(FILE *out, uint32_t sector, uint32_t count) {
             (unsigned)(TOP + ROW * (sector / ISC_ZONE_SECTORS)), (unsigned)count, BAR);
 }
 
-/* A run within one zone. */
-static void put_run(FILE *out, const uint8_t *table, uint32_t sector, uint32_t count) {
+/* A run within one zone; `what` follows the file's name. */
+static void put_run(FILE *out, const uint8_t *table, const char *what, uint32_t sector, uint32_t count) {
     put_place(out, sector, count);
     put_fill(out, table);
     fprintf(out, "><title>%u ", (unsigned)books_u32(table + ISC_ENTRY_ID));
     put_name(out, table + ISC_ENTRY_NAME, ISC_NAME_MOST);
-    fprintf(out, ": sectors %u to %u</title></rect>\n", (unsigned)sector, (unsigned)(sector + count - 1));
+    fprintf(out, "%s: sectors %u to %u</title></rect>\n", what, (unsigned)sector, (unsigned)(sector + count - 1));
 }
 
-/* A run may go on from zone to zone, and so from row to row. */
+/* A run of data may go on from zone to zone, and so from row to row; a header lies in one. */
 static void draw_file(FILE *out, const uint8_t *books, uint32_t id) {
+    const uint8_t *table = books_index(books, id);
     struct run_walk walk;
     uint32_t start, count;
     runs_start(&walk, books, id);
@@ -75,11 +76,13 @@ static void draw_file(FILE *out, const uint8_t *books, uint32_t id) {
         while (count > 0) {
             uint32_t row = ISC_ZONE_SECTORS - start % ISC_ZONE_SECTORS;
             uint32_t part = count < row ? count : row;
-            put_run(out, books_index(books, id), start, part);
+            put_run(out, table, "", start, part);
             start += part;
             count -= part;
         }
     }
+    if (books_header(table, &start, &count))
+        put_run(out, table, ", header", start, count);
 }
 
 static void draw_zones(FILE *out, const struct volume *volume) {

@@ -92,8 +92,13 @@ int volume_check(const char *path) {
     return status;
 }
 
-/* Writes the sectors of a file to the card; the rest of the body cannot have changed, and need not be read. */
-static int save_file(const struct volume *volume, uint32_t file) {
+/* Where a sector of the volume stands in the image. */
+static size_t place_of(uint32_t sector) {
+    return (size_t)ISC_SECTOR * sector;
+}
+
+/* Writes the data of a file to the card; the rest of the body cannot have changed, and need not be read. */
+static int save_data(const struct volume *volume, uint32_t file) {
     struct progress progress;
     struct run_walk walk;
     uint32_t start, count, k;
@@ -103,7 +108,7 @@ static int save_file(const struct volume *volume, uint32_t file) {
     runs_start(&walk, volume->books, file);
     while (status == CARD_DONE && runs_next(&walk, &start, &count)) {
         for (k = 0; k < count && status == CARD_DONE; k++, done += ISC_SECTOR) {
-            status = save_part(&volume->image, (size_t)ISC_SECTOR * (start + k), ISC_SECTOR, &written);
+            status = save_part(&volume->image, place_of(start + k), ISC_SECTOR, &written);
             progress_at(&progress, done);
         }
     }
@@ -113,16 +118,36 @@ static int save_file(const struct volume *volume, uint32_t file) {
     return status;
 }
 
-int volume_save(struct volume *volume, uint32_t file) {
-    uint8_t *now = volume->image.now;
-    uint32_t number = isc_dismount(volume->books, volume->books_len);
+/* The header of a file, if it is one and has one. */
+static int header_of(const uint8_t *books, uint32_t file, uint32_t *start, uint32_t *count) {
+    return books_is_file(books, file) && books_header(books_index(books, file), start, count);
+}
+
+/* Writes the sectors of a file's header to the card that are free in the books as they stand there. */
+static int save_new_header(const struct volume *volume, uint32_t file) {
+    uint32_t start, count, k;
+    size_t written = 0;
     int status = CARD_DONE;
+    if (!header_of(volume->books, file, &start, &count))
+        return CARD_DONE;
+    for (k = 0; k < count && status == CARD_DONE; k++)
+        if (!books_sector_used(volume->image.before, start + k))
+            status = save_part(&volume->image, place_of(start + k), ISC_SECTOR, &written);
+    return status == CARD_DONE && written > 0 ? save_force(&volume->image) : status;
+}
+
+int volume_save(struct volume *volume, uint32_t file, enum part part) {
+    uint8_t *now = volume->image.now;
+    uint32_t start, count, number = isc_dismount(volume->books, volume->books_len);
+    size_t id_at = 0;
+    int status;
     if (number != ISC_DONE)
         return say_refusal(number);
     memcpy(now + image_backup(&volume->image), now, ISC_ZONE);
-    if (file != 0)
-        status = save_file(volume, file);
-    return status == CARD_DONE ? save_copies(&volume->image, COPY_ZONE_1) : status;
+    if (part == PART_HEADER && header_of(volume->image.before, file, &start, &count))
+        id_at = place_of(start);
+    status = part == PART_DATA ? save_data(volume, file) : save_new_header(volume, file);
+    return status == CARD_DONE ? save_copies(&volume->image, COPY_ZONE_1, id_at) : status;
 }
 
 void volume_close(struct volume *volume) {

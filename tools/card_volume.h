@@ -31,9 +31,12 @@ int volume_open(struct volume *volume, const char *path, enum access access);
    which one, and where. Returns an exit status. */
 int volume_check(const char *path);
 
-/* Dismounts it in memory, makes the backup equal in memory, and writes out what changed: in the body the sectors of one
-   file, or nothing if `file` is 0. Returns an exit status. */
-int volume_save(struct volume *volume, uint32_t file);
+/* What a request can have changed in the body, of one file: its data, or its header. */
+enum part { PART_DATA, PART_HEADER };
+
+/* Dismounts it in memory, makes the backup equal in memory, and writes out what changed; in the body, this part of a
+   file. Returns an exit status. */
+int volume_save(struct volume *volume, uint32_t file, enum part part);
 
 void volume_close(struct volume *volume);
 

@@ -110,12 +110,12 @@ void written_at(const struct request *r, const struct volume *then, uint32_t mov
     expect(r, &a, file, line);
 }
 
-/* Done: "hands back that sector as it lies in the body", which begins with sector 1024. */
-void shown_at(const struct request *r, uint32_t sector, const char *file, int line) {
+/* Done: "hands back that sector as it lies in the body", which begins with sector 1024; or the sectors of a header. */
+void shown_at(const struct request *r, uint32_t sector, uint32_t count, const char *file, int line) {
     struct answer a;
     memset(&a, 0, sizeof a);
     a.value[0] = 1024 * (sector - 1024);
-    a.value[1] = 1024;
+    a.value[1] = 1024 * count;
     expect(r, &a, file, line);
 }
 

@@ -33,7 +33,7 @@ static const struct change changes[] = {
     /* 4: R2 */
     {4, ZONE_TABLE, 0, 2, 2}, {4, ZONE_TABLE, 2, 2, 0}, {4, ZONE_TABLE, 4, 2, 4}, {4, ZONE_TABLE, 12, 2, 1},
     {4, ZONE_TABLE, 14, 2, 0}, {4, ZONE_TABLE, 16, 2, 2}, {4, SECTOR_TABLE, 0, 1, 0x7F},
-    {4, SECTOR_TABLE, 383, 1, 0xFE}, {4, ZONE_TABLE, 6, 2, 0}, {4, ZONE_TABLE, 6, 2, 2}, {4, ZONE_TABLE, 6, 2, 9},
+    {4, SECTOR_TABLE, 383, 1, 0xFE}, {4, ZONE_TABLE, 6, 2, 0}, {4, ZONE_TABLE, 6, 2, 1}, {4, ZONE_TABLE, 6, 2, 9},
     {4, ZONE_TABLE, 10, 2, 1},
     /* 4: R3 */
     {4, ZONE_TABLE, 8, 2, 1002}, {4, ZONE_TABLE, 8, 2, 1004}, {4, ZONE_TABLE, 6, 2, 4},
@@ -44,8 +44,9 @@ static const struct change changes[] = {
     /* 4: R5 */
     {4, INDEX + 4, 4, 4, 2}, {4, INDEX + 1, 124, 4, 0}, {4, INDEX + 4, 124, 4, 4}, {4, INDEX + 2, 124, 4, 4},
     {4, INDEX + 1, 124, 4, 2}, {4, INDEX + 1, 124, 4, 5}, {4, INDEX + 4, 26, 2, 0},
-    /* 4: R6 */
-    {4, INDEX + 2, 62, 2, 1}, {4, INDEX + 2, 64, 4, 0}, {4, INDEX + 2, 68, 2, 0}, {4, INDEX + 2, 68, 2, 0x8001},
+    /* 4: R6; of type B, zone 2 would have headers alone */
+    {4, ZONE_TABLE, 6, 2, 2}, {4, INDEX + 2, 58, 4, 1024}, {4, INDEX + 2, 62, 2, 1}, {4, INDEX + 2, 64, 4, 0},
+    {4, INDEX + 2, 68, 2, 0}, {4, INDEX + 2, 68, 2, 0x8001},
     {4, INDEX + 2, 64, 4, 1023}, {4, INDEX + 2, 64, 4, 2048}, {4, INDEX + 2, 64, 4, 0xFFFFFFFF},
     /* 4: R7 */
     {4, INDEX + 2, 64, 4, 1024}, {4, SECTOR_TABLE, 128, 1, 0x7F}, {4, SECTOR_TABLE, 200, 1, 1},

@@ -25,8 +25,8 @@ void read_only(const struct lent *lent);
 int take_back(const struct lent *lent); /* 1 if the bytes around it are as they were */
 
 /* paper.c: volumes, and their books as the paper lays them out. */
-enum { RUNS_MOST = 64, FILES_MOST = 8, CHAIN_MOST = 8, CHILDREN_MOST = 4 };
-enum { TYPE_C = 3, TYPE_D, TYPE_E, TYPE_F, TYPE_G, TYPE_H };
+enum { RUNS_MOST = 64, FILES_MOST = 36, CHAIN_MOST = 8, CHILDREN_MOST = 4 };
+enum { TYPE_B = 2, TYPE_C, TYPE_D, TYPE_E, TYPE_F, TYPE_G, TYPE_H };
 
 struct run {
     uint32_t start, count;
@@ -40,6 +40,7 @@ struct file {
     uint32_t children[CHILDREN_MOST]; /* the child tables in order; 0 ends them */
     uint32_t runs_count;
     struct run runs[RUNS_MOST];
+    struct run header; /* count 0: none */
     int noise, child_noise; /* the unexamined bytes of its parent table, of its child tables, are not zero */
 };
 
@@ -49,7 +50,7 @@ struct volume {
     const char *texts[4];                   /* application, volume name, owner, owner's code */
     uint32_t volume_id;
     const uint8_t *initialized, *updated;
-    uint8_t type[ISC_ZONES_MOST + 1]; /* of zones 2 to Z-1; 0 or TYPE_C to TYPE_H */
+    uint8_t type[ISC_ZONES_MOST + 1]; /* of zones 2 to Z-1; 0 or TYPE_B to TYPE_H */
     uint32_t files_count;
     struct file files[FILES_MOST];
     uint32_t chain[CHAIN_MOST]; /* the free chain's head; the other free tables follow, ascending */
@@ -65,9 +66,11 @@ struct file *put(struct volume *v, uint32_t id, const char *name, uint32_t lengt
 void run(struct file *f, uint32_t start, uint32_t count);
 struct volume desk(int child);
 struct volume curve(uint32_t attribute);
+struct volume rack(void);
 void paper_books(const struct volume *v, uint8_t *books);
 void put_number(uint8_t *at, unsigned bytes, uint32_t value);
 uint32_t get_number(const uint8_t *at, unsigned bytes);
+void paper_header(uint8_t *body, struct run place, uint32_t id, const uint8_t *data, uint32_t length);
 
 /* Where a test alters books: in sector 0, sector 1, the zone table, the sector table, or index table INDEX + 1, ... */
 enum place { SECTOR_0, SECTOR_1, ZONE_TABLE, SECTOR_TABLE, INDEX };
@@ -76,9 +79,10 @@ uint8_t *spot(const struct volume *v, uint8_t *books, int place, uint32_t offset
 /* call.c: one request, lent, called and compared. */
 enum call {
     FORMAT, MOUNT, DISMOUNT, CREATE_FIXED, CREATE_VARIABLE, GROW, TEMPORARY_DELETE, RECOVER, ACTUAL_DELETE,
-    SET_PROTECTION, SEARCH, LIST, LOCATE, SPACE, REPORT, BROKEN_RULE, BROKEN_TEXT, READ, WRITE, SHOW, CALLS
+    SET_PROTECTION, SEARCH, LIST, LOCATE, SPACE, REPORT, BROKEN_RULE, BROKEN_TEXT, READ, WRITE, SHOW,
+    PLACE_HEADER, SHOW_HEADER, CALLS
 };
-enum { BOOKS_MOST = 1025 * 1024, BODY_MOST = 2 * 1048576 + 1024, FILL = 0x55, VALUES_MOST = 3 };
+enum { BOOKS_MOST = 1025 * 1024, BODY_MOST = 4 * 1048576 + 1024, FILL = 0x55, VALUES_MOST = 3 };
 
 struct slice {
     const uint8_t *at;
@@ -89,7 +93,7 @@ struct request {
     enum call call;
     struct slice books, body;
     struct slice name; /* of a create, or the pattern of a search */
-    struct slice date, in;
+    struct slice date, in; /* in: the data of a write or of a header */
     struct slice texts[4]; /* of format, in its order */
     size_t room;           /* how much is lent to be filled: elements of ids, bytes of entries, text or out */
     int32_t zones, indexes, size, flag, cell, position, length;
@@ -98,7 +102,7 @@ struct request {
 
 struct answer {
     uint32_t number;
-    uint32_t value[VALUES_MOST]; /* of show: the place's at and len */
+    uint32_t value[VALUES_MOST]; /* of show and show header: the place's at and len */
     const uint8_t *books;        /* afterwards; null if they stay as they were */
     const uint8_t *body;
     struct slice filled; /* what then begins the lent buffer; the rest of it stays */
@@ -118,7 +122,7 @@ void refused_at(const struct request *r, uint32_t number, const char *file, int 
 void done_at(const struct request *r, const struct volume *then, uint32_t value, const char *file, int line);
 void filled_at(const struct request *r, uint32_t value, const void *bytes, size_t len, const char *file, int line);
 void written_at(const struct request *r, const struct volume *then, uint32_t moved, const char *file, int line);
-void shown_at(const struct request *r, uint32_t sector, const char *file, int line);
+void shown_at(const struct request *r, uint32_t sector, uint32_t count, const char *file, int line);
 void named_at(const struct request *r, uint32_t rule, uint32_t kind, uint32_t place, const char *file, int line);
 void bad_dates_at(const struct request *r, const char *file, int line);
 void bad_ids_at(const struct request *r, const char *file, int line);
@@ -127,7 +131,7 @@ void bad_ids_at(const struct request *r, const char *file, int line);
 #define DONE(r, then, value) done_at(r, then, value, __FILE__, __LINE__)
 #define FILLED(r, value, bytes, len) filled_at(r, value, bytes, len, __FILE__, __LINE__)
 #define WRITTEN(r, then, moved) written_at(r, then, moved, __FILE__, __LINE__)
-#define SHOWN(r, sector) shown_at(r, sector, __FILE__, __LINE__)
+#define SHOWN(r, sector, count) shown_at(r, sector, count, __FILE__, __LINE__)
 #define BAD_DATES(r) bad_dates_at(r, __FILE__, __LINE__)
 #define BAD_IDS(r) bad_ids_at(r, __FILE__, __LINE__)
 
@@ -145,6 +149,7 @@ void test_broken(void);
 void test_read(void);
 void test_write(void);
 void test_show(void);
+void test_place(void);
 void test_cards(void);
 void test_words(void);
 

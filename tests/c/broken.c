@@ -181,9 +181,8 @@ static void test_r2(void) {
         {2, AT_ZONE, 5, {{SECTOR_TABLE, 512, 1, 0x80}}},
         {2, AT_ZONE, 5, {{SECTOR_TABLE, 639, 1, 0x01}}},
         {2, AT_ZONE, 3, {{ZONE_TABLE, 12, 2, 0}}},
-        /* "or type 3-8 with third field 0" */
+        /* "or type 2-8 with third field 0" */
         {2, AT_ZONE, 3, {{ZONE_TABLE, 12, 2, 1}}},
-        {2, AT_ZONE, 3, {{ZONE_TABLE, 12, 2, 2}}},
         {2, AT_ZONE, 3, {{ZONE_TABLE, 12, 2, 9}}},
         {2, AT_ZONE, 3, {{ZONE_TABLE, 12, 2, 0xFFFF}}},
         {2, AT_ZONE, 4, {{ZONE_TABLE, 22, 2, 1}}},
@@ -210,6 +209,8 @@ static void test_r3(void) {
         {3, AT_ZONE, 3, {{SECTOR_TABLE, 300, 1, 0x01}, {ZONE_TABLE, 14, 2, 252}}},
         /* of type D, zone 2 would have a block of 1024 to 1027 with two bits set */
         {3, AT_ZONE, 2, {{ZONE_TABLE, 6, 2, 4}}},
+        /* of type B, zone 3 would have 1,012 free sectors */
+        {3, AT_ZONE, 3, {{ZONE_TABLE, 12, 2, 2}}},
         /* Several: the lowest. */
         {3, AT_ZONE, 3, {{ZONE_TABLE, 20, 2, 1017}, {SECTOR_TABLE, 256, 1, 0xEF}}},
         {3, AT_ZONE, 2, {{SECTOR_TABLE, 256, 1, 0x7F}, {ZONE_TABLE, 8, 2, 0}}},
@@ -386,7 +387,10 @@ static void test_r6(void) {
         {6, AT_INDEX, 6, {{INDEX + 6, 64, 4, 0}, {INDEX + 6, 68, 2, 0}}},
         {6, AT_INDEX, 6, {{INDEX + 6, 70, 4, 0}, {INDEX + 6, 74, 2, 0}}},
         {6, AT_INDEX, 5, {{INDEX + 5, 22, 4, 0}, {INDEX + 5, 26, 2, 0}}},
-        /* "A parent has one at least, and a zero header pointer" */
+        /* data in a zone of type B: zone 3, with 1,012 free sectors, and zone 2, whose blocks have one sector too */
+        {6, AT_INDEX, 6, {{ZONE_TABLE, 12, 2, 2}, {ZONE_TABLE, 14, 2, 1012}}},
+        {6, AT_INDEX, 2, {{ZONE_TABLE, 6, 2, 2}}},
+        /* "A parent has one at least"; a header pointer is six zero bytes, or a run in a zone of type B */
         {6, AT_INDEX, 11, {{INDEX + 11, 64, 4, 0}, {INDEX + 11, 68, 2, 0}}},
         {6, AT_INDEX, 6, {{INDEX + 6, 58, 4, 1}}},
         {6, AT_INDEX, 2, {{INDEX + 2, 62, 2, 0x8000}}},
@@ -438,6 +442,68 @@ static void test_r7(void) {
         {7, AT_SECTOR, 1024, {{SECTOR_TABLE, 150, 1, 0xA2}, {ZONE_TABLE, 8, 2, 985}, {INDEX + 4, 64, 4, 1024}}},
     };
     TRY(shelf(), r7);
+}
+
+/* shelf() with zone 5 of type B: 989 of its sectors are free. The headers: of file 2 (4096,1), of file 11, which is
+   deleted, (4097,2), of file 4 (4100,32). */
+static struct volume headed_shelf(void) {
+    struct volume v = shelf();
+    static const struct run places[] = {{4096, 1}, {4100, 32}, {0, 0}, {4097, 2}};
+    size_t i;
+    for (i = 0; i < 4; i++)
+        v.files[i].header = places[i];
+    v.type[5] = TYPE_B;
+    return v;
+}
+
+/* R6 of a header pointer: "a count of 1 to 32 with its whole run within one zone of type 2". */
+static void test_r6_headers(void) {
+    static const struct damage headers[] = {
+        {6, AT_INDEX, 4, {{INDEX + 4, 62, 2, 33}}},
+        {6, AT_INDEX, 4, {{INDEX + 4, 62, 2, 0}}},
+        {6, AT_INDEX, 2, {{INDEX + 2, 62, 2, 0x8001}}},
+        {6, AT_INDEX, 11, {{INDEX + 11, 62, 2, 0xFFFF}}},
+        /* in zone 1, in zones of type C and D, in zone Z, past it */
+        {6, AT_INDEX, 4, {{INDEX + 4, 58, 4, 0}}},
+        {6, AT_INDEX, 4, {{INDEX + 4, 58, 4, 1500}}},
+        {6, AT_INDEX, 4, {{INDEX + 4, 58, 4, 2100}}},
+        {6, AT_INDEX, 4, {{INDEX + 4, 58, 4, 5120}}},
+        {6, AT_INDEX, 4, {{INDEX + 4, 58, 4, 6144}}},
+        {6, AT_INDEX, 4, {{INDEX + 4, 58, 4, 0xFFFFFFFF}}},
+        {6, AT_INDEX, 4, {{INDEX + 4, 58, 4, 0xFFFFFFE0}}},
+        /* into zone 5 from the one before, and out of it */
+        {6, AT_INDEX, 4, {{INDEX + 4, 58, 4, 4095}}},
+        {6, AT_INDEX, 4, {{INDEX + 4, 58, 4, 5089}}},
+        /* data in zone 5 */
+        {6, AT_INDEX, 11, {{INDEX + 11, 64, 4, 4200}}},
+        /* several: the lowest */
+        {6, AT_INDEX, 4, {{INDEX + 11, 62, 2, 0}, {INDEX + 4, 62, 2, 33}}},
+    };
+    TRY(headed_shelf(), headers);
+}
+
+/* The other rules, where there are headers. Sectors 4096 to 4103 are byte 512 of the sector table, 0xEF. */
+static void test_headers(void) {
+    static const struct damage headers[] = {
+        {0, AT_NOTHING, 0, {{ZONE_TABLE, 24, 2, 2}}},
+        {2, AT_ZONE, 5, {{ZONE_TABLE, 28, 2, 1}}},
+        {3, AT_ZONE, 5, {{ZONE_TABLE, 26, 2, 988}}},
+        {3, AT_ZONE, 5, {{SECTOR_TABLE, 512, 1, 0xFF}}},
+        /* R7: set and under none; clear and under a header */
+        {7, AT_SECTOR, 4099, {{SECTOR_TABLE, 512, 1, 0xFF}, {ZONE_TABLE, 26, 2, 988}}},
+        {7, AT_SECTOR, 4100, {{SECTOR_TABLE, 512, 1, 0xE7}, {ZONE_TABLE, 26, 2, 990}}},
+        {7, AT_SECTOR, 4131, {{INDEX + 4, 62, 2, 31}}},
+        {7, AT_SECTOR, 4100, {{INDEX + 4, 58, 4, 5088}}},
+        {7, AT_SECTOR, 4100, {{INDEX + 4, 58, 4, 0}, {INDEX + 4, 62, 2, 0}}},
+        /* under two headers */
+        {7, AT_SECTOR, 4096, {{INDEX + 11, 58, 4, 4096}}},
+        {7, AT_SECTOR, 4100, {{INDEX + 11, 62, 2, 5}, {SECTOR_TABLE, 512, 1, 0xFF}, {ZONE_TABLE, 26, 2, 988}}},
+        /* R8: file 11 has one sector, and its header's two are no more of it */
+        {8, AT_INDEX, 11, {{INDEX + 11, 40, 4, 1025}}},
+    };
+    struct volume v = headed_shelf();
+    unbroken(&v, __LINE__);
+    TRY(v, headers);
 }
 
 /* "R8 an index": that of the file. */
@@ -602,6 +668,10 @@ void test_broken(void) {
     test_r5_tight();
     group("broken rule: R6, by the index table");
     test_r6();
+    group("broken rule: R6, a header's place");
+    test_r6_headers();
+    group("broken rule: the others, with headers");
+    test_headers();
     group("broken rule: R7, by the sector");
     test_r7();
     group("broken rule: R8, by the file");

@@ -46,15 +46,15 @@ static uint32_t call_grow(const struct request *r, struct loan *l) {
 }
 
 static uint32_t call_temporary_delete(const struct request *r, struct loan *l) {
-    return isc_temporary_delete(l->books.at, l->books.len, r->id, l->date.at, l->date.len);
+    return isc_temporary_delete(l->books.at, l->books.len, l->body.at, l->body.len, r->id, l->date.at, l->date.len);
 }
 
 static uint32_t call_recover(const struct request *r, struct loan *l) {
-    return isc_recover(l->books.at, l->books.len, r->id, l->date.at, l->date.len);
+    return isc_recover(l->books.at, l->books.len, l->body.at, l->body.len, r->id, l->date.at, l->date.len);
 }
 
 static uint32_t call_actual_delete(const struct request *r, struct loan *l) {
-    return isc_actual_delete(l->books.at, l->books.len, r->id, l->date.at, l->date.len);
+    return isc_actual_delete(l->books.at, l->books.len, l->body.at, l->body.len, r->id, l->date.at, l->date.len);
 }
 
 static uint32_t call_set_protection(const struct request *r, struct loan *l) {
@@ -104,17 +104,31 @@ static uint32_t call_write(const struct request *r, struct loan *l) {
                      l->in.at, l->in.len, l->date.at, l->date.len, value_of(l, 0));
 }
 
-/* Show is three functions: the place, the part that the header makes of it, and the number. */
-static uint32_t call_show(const struct request *r, struct loan *l) {
-    isc_place place = isc_show_place(l->books.at, l->books.len, l->body.at, l->body.len, r->id, r->k);
-    isc_part part = isc_show(l->books.at, l->books.len, l->body.at, l->body.len, r->id, r->k);
+/* Both shows are three functions: the place, the part that isc.h makes of it, and the number. */
+static void take_place(struct loan *l, const char *name, isc_place place, isc_part part) {
     if (part.at != l->body.at + place.at || part.len != place.len)
-        fail(l->file, l->line, "isc_show: not the part of the body that isc_show_place says");
+        fail(l->file, l->line, "%s: not the part of the body at its place", name);
     if (place.at > UINT32_MAX || place.len > UINT32_MAX)
-        fail(l->file, l->line, "isc_show_place: outside the body");
+        fail(l->file, l->line, "%s: outside the body", name);
     *value_of(l, 0) = (uint32_t)place.at;
     *value_of(l, 1) = (uint32_t)place.len;
+}
+
+static uint32_t call_show(const struct request *r, struct loan *l) {
+    take_place(l, "isc_show", isc_show_place(l->books.at, l->books.len, l->body.at, l->body.len, r->id, r->k),
+               isc_show(l->books.at, l->books.len, l->body.at, l->body.len, r->id, r->k));
     return isc_show_number(l->books.at, l->books.len, l->body.at, l->body.len, r->id, r->k);
+}
+
+static uint32_t call_place_header(const struct request *r, struct loan *l) {
+    return isc_place_header(l->books.at, l->books.len, l->body.at, l->body.len, r->id, l->in.at, l->in.len, l->date.at,
+                            l->date.len);
+}
+
+static uint32_t call_show_header(const struct request *r, struct loan *l) {
+    take_place(l, "isc_show_header", isc_header_place(l->books.at, l->books.len, l->body.at, l->body.len, r->id),
+               isc_show_header(l->books.at, l->books.len, l->body.at, l->body.len, r->id));
+    return isc_header_number(l->books.at, l->books.len, l->body.at, l->body.len, r->id);
 }
 
 /* Which slices a call takes, beside the books, and which of them it may write. */
@@ -132,9 +146,9 @@ static const struct {
     {"isc_create_fixed", call_create_fixed, BOOKS_WRITTEN | NAME | DATE, 1, 0},
     {"isc_create_variable", call_create_variable, BOOKS_WRITTEN | NAME | DATE, 1, 0},
     {"isc_grow", call_grow, BOOKS_WRITTEN | DATE, 0, 0},
-    {"isc_temporary_delete", call_temporary_delete, BOOKS_WRITTEN | DATE, 0, 0},
-    {"isc_recover", call_recover, BOOKS_WRITTEN | DATE, 0, 0},
-    {"isc_actual_delete", call_actual_delete, BOOKS_WRITTEN | DATE, 0, 0},
+    {"isc_temporary_delete", call_temporary_delete, BOOKS_WRITTEN | BODY | BODY_WRITTEN | DATE, 0, 0},
+    {"isc_recover", call_recover, BOOKS_WRITTEN | BODY | BODY_WRITTEN | DATE, 0, 0},
+    {"isc_actual_delete", call_actual_delete, BOOKS_WRITTEN | BODY | BODY_WRITTEN | DATE, 0, 0},
     {"isc_set_protection", call_set_protection, BOOKS_WRITTEN | DATE, 0, 0},
     {"isc_search", call_search, NAME, 1, 4},
     {"isc_list", call_list, 0, 1, 1},
@@ -146,6 +160,8 @@ static const struct {
     {"isc_read", call_read, BODY, 1, 1},
     {"isc_write", call_write, BOOKS_WRITTEN | BODY | BODY_WRITTEN | IN | DATE, 1, 0},
     {"isc_show", call_show, BODY, 2, 0},
+    {"isc_place_header", call_place_header, BOOKS_WRITTEN | BODY | BODY_WRITTEN | IN | DATE, 0, 0},
+    {"isc_show_header", call_show_header, BODY, 2, 0},
 };
 
 const char *call_name(enum call call) { return calls[call].name; }

@@ -6,8 +6,8 @@
 #define SAME(name, left, right) typedef char same_##name[(left) == (right) ? 1 : -1]
 
 SAME(major, ISC_VERSION_MAJOR, 1);
-SAME(minor, ISC_VERSION_MINOR, 2);
-SAME(version, ISC_VERSION, 1002);
+SAME(minor, ISC_VERSION_MINOR, 3);
+SAME(version, ISC_VERSION, 1003);
 
 /* "Numbers a request can answer." */
 SAME(n0, ISC_DONE, 0);
@@ -43,6 +43,9 @@ SAME(application, ISC_APPLICATION_MOST, 23 - 8 + 1);
 SAME(volume_name, ISC_VOLUME_NAME_MOST, 55 - 24 + 1);
 SAME(owner, ISC_OWNER_MOST, 91 - 60 + 1);
 SAME(owner_code, ISC_OWNER_CODE_MOST, 123 - 92 + 1);
+SAME(header_most, ISC_HEADER_MOST, 32762);
+SAME(header_sectors, ISC_HEADER_SECTORS_MOST, 32);
+SAME(header_whole, ISC_HEADER_DATA + ISC_HEADER_MOST, ISC_HEADER_SECTORS_MOST * ISC_SECTOR);
 SAME(list_entry, ISC_LIST_ENTRY, 64);
 SAME(report_text, ISC_REPORT_TEXT, 192);
 SAME(broken_text, ISC_BROKEN_TEXT, 64);
@@ -83,6 +86,11 @@ SAME(entry_length, ISC_ENTRY_LENGTH, 40);
 SAME(entry_attribute, ISC_ENTRY_ATTRIBUTE, 44);
 SAME(entry_header, ISC_ENTRY_HEADER, 58);
 
+/* "File id (4 bytes), length L (2), L bytes, then nulls." */
+SAME(header_id, ISC_HEADER_ID, 0);
+SAME(header_length, ISC_HEADER_LENGTH, 4);
+SAME(header_data, ISC_HEADER_DATA, 6);
+
 /* "Weight 1 temporarily deleted, 2 writing, 4 write-protected, 8 read-protected, 16 variable size, 32 directory file,
    64 system file." */
 SAME(weight_deleted, ISC_WEIGHT_DELETED, 1);
@@ -110,9 +118,9 @@ uint32_t isc_create_fixed(uint8_t *, size_t, const uint8_t *, size_t, int32_t, i
 uint32_t isc_create_variable(uint8_t *, size_t, const uint8_t *, size_t, int32_t, uint32_t, const uint8_t *, size_t,
                              uint32_t *);
 uint32_t isc_grow(uint8_t *, size_t, uint32_t, int32_t, const uint8_t *, size_t);
-uint32_t isc_temporary_delete(uint8_t *, size_t, uint32_t, const uint8_t *, size_t);
-uint32_t isc_recover(uint8_t *, size_t, uint32_t, const uint8_t *, size_t);
-uint32_t isc_actual_delete(uint8_t *, size_t, uint32_t, const uint8_t *, size_t);
+uint32_t isc_temporary_delete(uint8_t *, size_t, uint8_t *, size_t, uint32_t, const uint8_t *, size_t);
+uint32_t isc_recover(uint8_t *, size_t, uint8_t *, size_t, uint32_t, const uint8_t *, size_t);
+uint32_t isc_actual_delete(uint8_t *, size_t, uint8_t *, size_t, uint32_t, const uint8_t *, size_t);
 uint32_t isc_set_protection(uint8_t *, size_t, uint32_t, uint32_t, const uint8_t *, size_t);
 uint32_t isc_search(const uint8_t *, size_t, const uint8_t *, size_t, uint32_t *, size_t, uint32_t *);
 uint32_t isc_list(const uint8_t *, size_t, uint32_t, uint8_t *, size_t, uint32_t *);
@@ -127,6 +135,10 @@ uint32_t isc_write(uint8_t *, size_t, uint8_t *, size_t, uint32_t, int32_t, int3
                    const uint8_t *, size_t, uint32_t *);
 isc_place isc_show_place(const uint8_t *, size_t, const uint8_t *, size_t, uint32_t, uint32_t);
 uint32_t isc_show_number(const uint8_t *, size_t, const uint8_t *, size_t, uint32_t, uint32_t);
+uint32_t isc_place_header(uint8_t *, size_t, uint8_t *, size_t, uint32_t, const uint8_t *, size_t, const uint8_t *,
+                          size_t);
+isc_place isc_header_place(const uint8_t *, size_t, const uint8_t *, size_t, uint32_t);
+uint32_t isc_header_number(const uint8_t *, size_t, const uint8_t *, size_t, uint32_t);
 
 /* The inline functions, and the types that the header names. */
 const char *use_text(enum isc_number number);
@@ -138,6 +150,11 @@ const char *use_rule(uint32_t rule) { return isc_rule_text(rule); }
 isc_part use_show(const uint8_t *books, size_t books_len, const uint8_t *body, size_t body_len);
 isc_part use_show(const uint8_t *books, size_t books_len, const uint8_t *body, size_t body_len) {
     return isc_show(books, books_len, body, body_len, 1, 0);
+}
+
+isc_part use_show_header(const uint8_t *books, size_t books_len, const uint8_t *body, size_t body_len);
+isc_part use_show_header(const uint8_t *books, size_t books_len, const uint8_t *body, size_t body_len) {
+    return isc_show_header(books, books_len, body, body_len, 1);
 }
 
 int32_t use_kinds(enum isc_kind kind, enum isc_protection protection, enum isc_type type, enum isc_cell cell,

@@ -16,6 +16,7 @@ static void test_all(void) {
     test_read();
     test_write();
     test_show();
+    test_place();
     test_cards();
 }
 

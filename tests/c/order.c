@@ -3,7 +3,7 @@
 #include "border.h"
 #include <string.h>
 
-/* A request on desk(0), and what is spoilt in its books. */
+/* A request on desk(0), one about headers on rack(), and what is spoilt in its books. */
 struct scene {
     struct volume v;
     struct request r;
@@ -18,9 +18,9 @@ static const int numbers[CALLS][16] = {
     {1, 2, 3, 4, 5, 7, 12, 13},
     {1, 2, 3, 4, 5, 7, 12, 13},
     {1, 2, 3, 4, 5, 7, 8, 9, 10, 11, 12, 13},
-    {1, 2, 3, 4, 5, 7, 8, 9, 10},
-    {1, 2, 3, 4, 5, 7, 8, 9},
-    {1, 2, 3, 4, 5, 7, 8, 9},
+    {1, 2, 3, 4, 5, 7, 15, 8, 9, 10},
+    {1, 2, 3, 4, 5, 7, 15, 8, 9},
+    {1, 2, 3, 4, 5, 7, 15, 8, 9},
     {1, 2, 3, 4, 5, 7, 8, 9},
     {1, 2, 3, 4, 5, 7},
     {1, 2, 3, 4, 5, 7},
@@ -31,6 +31,8 @@ static const int numbers[CALLS][16] = {
     {7, 1, 2, 3},
     {1, 2, 3, 4, 5, 7, 15, 8, 9, 10, 14},
     {1, 2, 3, 4, 5, 7, 15, 8, 9, 10, 14, 12, 13},
+    {1, 2, 3, 4, 5, 15, 8, 9, 10, 14},
+    {1, 2, 3, 4, 5, 7, 15, 8, 9, 10, 12},
     {1, 2, 3, 4, 5, 15, 8, 9, 10, 14},
 };
 
@@ -51,6 +53,11 @@ static void spoil_position(struct request *r) {
         r->position = 11264;
 }
 
+/* The protection that keeps a file from being read, or from being written. */
+static uint32_t protection_against(enum call call) {
+    return call == READ || call == SHOW || call == SHOW_HEADER ? 8 : 4;
+}
+
 static void spoil(struct scene *s, int number) {
     struct file *log = &s->v.files[0];
     switch (number) {
@@ -64,18 +71,33 @@ static void spoil(struct scene *s, int number) {
     case 15: s->r.body.len--; break;
     case 8: s->r.id = 0; break;
     case 9: log->attribute ^= 1; break;
-    case 10: log->attribute |= s->r.call == READ || s->r.call == SHOW ? 8 : 4; break;
+    case 10: log->attribute |= protection_against(s->r.call); break;
     case 11: log->attribute &= ~16U; break;
-    case 14: spoil_position(&s->r); break;
+    case 14:
+        spoil_position(&s->r);
+        memset(&log->header, 0, sizeof log->header);
+        break;
     case 12: s->full = 1; break;
     case 13: s->tables = 1; break;
     }
 }
 
+/* Zone 3 of rack() goes to a file of type H, so that no zone is of type B and none is open. */
+static void drop_headers(struct scene *s) {
+    memset(&s->v.files[0].header, 0, sizeof s->v.files[0].header);
+    memset(&s->v.files[1].header, 0, sizeof s->v.files[1].header);
+    run(put(&s->v, 3, "THIRD", 1, 0), 2048, 1024);
+    s->v.type[3] = TYPE_H;
+    s->v.chain[0] = 0;
+}
+
 /* Zone 2 ends with sector 2047. Without `full` its sectors from 1044, or 1046, on stay free. */
 static void crowd(struct scene *s) {
     struct file *curve = &s->v.files[1];
-    if (s->tables) {
+    if (s->r.call == PLACE_HEADER) {
+        if (s->full)
+            drop_headers(s);
+    } else if (s->tables) {
         run(put(&s->v, 3, "THIRD", 1, 0), 1044, 1);
         run(put(&s->v, 4, "FOURTH", 1, 0), 1045, s->full ? 1003 : 1);
         s->v.chain[0] = 0;
@@ -86,7 +108,7 @@ static void crowd(struct scene *s) {
 static struct scene begin(enum call call) {
     struct scene s;
     memset(&s, 0, sizeof s);
-    s.v = desk(0);
+    s.v = call == PLACE_HEADER || call == SHOW_HEADER ? rack() : desk(0);
     s.v.flag = call != MOUNT;
     if (call == RECOVER || call == ACTUAL_DELETE)
         s.v.files[0].attribute |= 1;

@@ -120,6 +120,19 @@ struct volume curve(uint32_t attribute) {
     return v;
 }
 
+/* desk(1) with one zone more, of type B: the header of file 2 is its first sector, that of file 1 its next two. The
+   tables stand in the same places for four zones. */
+struct volume rack(void) {
+    struct volume v = desk(1);
+    v.zones = 4;
+    v.type[3] = TYPE_B;
+    v.files[0].header.start = 2049;
+    v.files[0].header.count = 2;
+    v.files[1].header.start = 2048;
+    v.files[1].header.count = 1;
+    return v;
+}
+
 static void put_text(uint8_t *at, size_t field, const char *words) {
     memset(at, 0, field);
     memcpy(at, words, strlen(words));
@@ -171,9 +184,9 @@ static void put_sector_1(const struct volume *v, uint8_t *at) {
 }
 
 /* R3: "the free count is the number of clear blocks"; "zone z holds sectors 1024(z-1) to 1024z-1", "types 3 to 8 are C
-   to H, with blocks of 1, 4, 16, 64, 256, 1024 sectors". */
+   to H, with blocks of 1, 4, 16, 64, 256, 1024 sectors". "Zone type 2 (B): free field = free sectors." */
 static uint32_t clear_blocks(const uint8_t *bits, uint32_t z, uint32_t type) {
-    uint32_t block = 1U << 2 * (type - TYPE_C), start, i, sum = 0;
+    uint32_t block = type == TYPE_B ? 1 : 1U << 2 * (type - TYPE_C), start, i, sum = 0;
     for (start = 1024 * (z - 1); start < 1024 * z; start += block) {
         int clear = 1;
         for (i = start; i < start + block; i++)
@@ -211,9 +224,11 @@ static void put_bits(const struct volume *v, uint8_t *at) {
     uint32_t i, j;
     set_bits(at, 0, 1024);
     set_bits(at, 1024 * (v->zones - 1), 1024);
-    for (i = 0; i < v->files_count; i++)
+    for (i = 0; i < v->files_count; i++) {
         for (j = 0; j < v->files[i].runs_count; j++)
             set_bits(at, v->files[i].runs[j].start, v->files[i].runs[j].count);
+        set_bits(at, v->files[i].header.start, v->files[i].header.count);
+    }
 }
 
 static void put_run(uint8_t *at, struct run r) {
@@ -255,6 +270,7 @@ static void put_file(const struct file *f, uint8_t *tables) {
     put_number(at + 44, 2, f->attribute);
     if (f->noise)
         memset(at + 46, NOISE, 12);
+    put_run(at + 58, f->header);
     for (j = 0; j < f->runs_count && j < 10; j++)
         put_run(at + 64 + 6 * j, f->runs[j]);
     put_number(at + 124, 4, f->children[0]);
@@ -311,4 +327,14 @@ void paper_books(const struct volume *v, uint8_t *books) {
     put_chain(v, books + 1024 + 26, tables);
     if (v->noise)
         put_noise(v, books);
+}
+
+/* "File id (4 bytes), length L (2), L bytes, then nulls", over all sectors of the header; the body begins with sector
+   1024. */
+void paper_header(uint8_t *body, struct run place, uint32_t id, const uint8_t *data, uint32_t length) {
+    uint8_t *at = body + 1024 * (size_t)(place.start - 1024);
+    memset(at, 0, 1024 * (size_t)place.count);
+    put_number(at, 4, id);
+    put_number(at + 4, 2, length);
+    memcpy(at + 6, data, length);
 }

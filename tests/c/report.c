@@ -19,20 +19,25 @@ static void test_fresh(void) {
                 "directory=0\nopen_zones=1\nmounted=0\n");
 }
 
-/* "An open zone has type 0, or type 3-8 with every block free": here zones 3, 4 and 6. */
+/* "An open zone has type 0, or type 3-8 with every block free"; "a wholly free type B zone is open too": here zones 4
+   and 6. Zone 3 has a header of two sectors, which are in use. */
 static void test_full(void) {
     struct volume v = spread(8, 20);
     v.type[2] = TYPE_C;
+    v.type[3] = TYPE_B;
     v.type[4] = TYPE_D;
     v.type[5] = TYPE_H;
+    v.type[6] = TYPE_B;
     v.type[7] = TYPE_G;
     run(put(&v, 3, "A", 5, 32), 1024, 5);
     run(put(&v, 4, "B", 5, 64), 4096, 1024);
     run(put(&v, 9, "C", 5, 64 + 1), 6400, 256);
     run(put(&v, 20, "D", 0, 16), 1030, 1);
     run(put(&v, 11, "E", 5, 32 + 1), 1031, 2);
-    reports(&v, "zones=8\nsectors=8192\nused=3336\nindexes=20\nfree_indexes=15\nactive=3\ndeleted=2\nsystem=1\n"
-                "directory=1\nopen_zones=3\nmounted=1\n");
+    v.files[1].header.start = 2500;
+    v.files[1].header.count = 2;
+    reports(&v, "zones=8\nsectors=8192\nused=3338\nindexes=20\nfree_indexes=15\nactive=3\ndeleted=2\nsystem=1\n"
+                "directory=1\nopen_zones=2\nmounted=1\n");
 }
 
 static void test_most(void) {

@@ -152,6 +152,53 @@ static void test_count(void) {
     broken(&v, __LINE__);
 }
 
+/* R6: a header is "1 to 32 [sectors], within one B zone". base() with zones 3 and 4 of type B, and file 2 in zone 2
+   alone. */
+static struct volume headed(uint32_t start, uint32_t count) {
+    struct volume v = base();
+    v.type[3] = v.type[4] = TYPE_B;
+    v.files[1].runs_count = 1;
+    v.files[1].runs[0].count = 4;
+    v.files[1].header.start = 3047;
+    v.files[1].header.count = 3;
+    v.files[0].header.start = start;
+    v.files[0].header.count = count;
+    return v;
+}
+
+static void test_headers(void) {
+    static const struct run good[] = {{0, 0},    {2048, 1},  {2048, 32}, {3015, 32}, {3050, 22}, {3071, 1},
+                                      {3072, 1}, {3072, 32}, {4064, 32}, {4095, 1}};
+    static const struct run bad[] = {{2048, 0}, {2048, 33}, {2048, 999}, {3050, 23}, {3071, 2}, {4095, 2},
+                                     {4096, 1}, {5119, 1},  {1023, 1},   {1100, 1},  {2047, 2}, {3047, 1},
+                                     {3046, 2}, {3049, 1},  {3020, 32}};
+    size_t i;
+    for (i = 0; i < sizeof good / sizeof good[0]; i++) {
+        struct volume v = headed(good[i].start, good[i].count);
+        taken(&v, __LINE__);
+    }
+    for (i = 0; i < sizeof bad / sizeof bad[0]; i++) {
+        struct volume v = headed(bad[i].start, bad[i].count);
+        broken(&v, __LINE__);
+    }
+}
+
+/* "In R8 a file's sectors and zone type stay those under its ten and seventeen pointers", and these lie in zones of
+   type 3-8: file 1 is variable, with three sectors of type C. */
+static void test_beside_headers(void) {
+    struct volume v = headed(2048, 32);
+    v.files[0].length = 3073;
+    broken(&v, __LINE__);
+    v = headed(2048, 1);
+    run(&v.files[1], 2049, 1);
+    broken(&v, __LINE__);
+    v.type[3] = TYPE_C;
+    broken(&v, __LINE__);
+    v.files[0].header.start = 3072;
+    v.files[1].header.start = 3073;
+    taken(&v, __LINE__);
+}
+
 /* R8: "Byte length is at most 1,024 x the file's sectors, at least 0, and at least 1 if fixed. Both dates valid." The
    latest update and the initialization date are named by no rule. */
 static void test_fields(void) {
@@ -190,6 +237,9 @@ void test_rules(void) {
     test_overlap();
     group("rules: the most sectors under a pointer");
     test_count();
+    group("rules: headers");
+    test_headers();
+    test_beside_headers();
     group("rules: lengths and dates");
     test_fields();
 }

@@ -11,7 +11,7 @@ static void test_sectors(uint32_t length) {
     v.files[0].attribute = 16 + 4;
     r = ask(SHOW, &v);
     for (r.k = 0; r.k < 11; r.k++)
-        SHOWN(&r, 1024 + 2 * r.k);
+        SHOWN(&r, 1024 + 2 * r.k, 1);
     for (i = 0; i < sizeof past / sizeof past[0]; i++) {
         r.k = past[i];
         REFUSED(&r, 14);
@@ -27,7 +27,7 @@ static void test_last(void) {
     r = ask(SHOW, &v);
     r.id = 2;
     r.k = 15;
-    SHOWN(&r, 3071);
+    SHOWN(&r, 3071, 1);
     r.k = 16;
     REFUSED(&r, 14);
 }

@@ -52,7 +52,9 @@ refused() {
     number=$1 name="refused by $1: $2"
     shift 2
     run "$@"
-    [ $status -eq 1 ] && head -1 "$T/err" | grep -q "^card: $1: [a-z].* ($number)\$"
+    command=$1
+    [ "$1" != header ] || command="$1 $2"
+    [ $status -eq 1 ] && head -1 "$T/err" | grep -q "^card: $command: [a-z].* ($number)\$"
     verdict $? "$name"
 }
 
@@ -96,6 +98,11 @@ byte_at() {
 }
 set_byte() {
     printf "\\$(printf %03o "$3")" | dd of="$1" bs=1 seek="$2" conv=notrunc 2>/dev/null
+}
+
+# sectors IMAGE FIRST COUNT: these sectors of an image.
+sectors() {
+    dd if="$1" bs=1024 skip="$2" count="$3" 2>/dev/null
 }
 
 # random MOST: the next number of a small generator, from 0 to MOST - 1, in $random.
@@ -155,8 +162,8 @@ a_day() {
     prints "active             26" "info counts the files"
     prints "space              14336 sectors, 14680064 bytes" "info has the space in sectors and bytes"
     run ls "$T/day.img"
-    grep -q "^   18     100000  fixed     system     --  $DATE  F18\$" "$T/out"
-    verdict $? "ls has id, bytes, size, kind, protection, date and name"
+    grep -q "^   18     100000       -  fixed     system     --  $DATE  F18\$" "$T/out"
+    verdict $? "ls has id, bytes, no header, size, kind, protection, date and name"
     [ "$(wc -l <"$T/out")" -eq 27 ]
     verdict $? "ls has every file"
 }
@@ -195,6 +202,132 @@ a_day_goes_on() {
     run info "$T/day.img"
     prints "$space" "no space was lost"
     works "check at the end of the day" check "$T/day.img"
+}
+
+# --- headers
+
+# has_header NAME FILE: its header comes out byte for byte.
+has_header() {
+    $CARD header get "$img" "$1" 2>"$T/err" | cmp -s - "$2"
+}
+
+# first_bytes SECTOR: the four bytes of the image at a sector's start.
+first_bytes() {
+    od -An -v -tu1 -j $((1024 * $1)) -N 4 "$img" | tr -s ' ' | sed 's/^ //'
+}
+
+# zone_line NUMBER TEXT NAME: map's line of a zone begins with this text.
+zone_line() {
+    run map "$img"
+    sed -n "$(($1 + 1))p" "$T/out" | grep -q "^ *$1  $2"
+    verdict $? "$3"
+}
+
+# Z is 4: zone 2 is of type C, with five sectors each of X and Y, zone 3 is open until there is a header.
+headers() {
+    img=$T/headers.img
+    run format "$img" --zones 4 --indexes 8 --date $DATE
+    bytes 5000 1 >"$T/in"
+    run put "$img" "$T/in" --name X --types C --date $DATE
+    run put "$img" "$T/in" --name Y --types C --date $DATE
+    refused 14 "header get without one" header get "$img" X "$T/none"
+    grep -qF "the file has no header" "$T/err" && [ ! -e "$T/none" ]
+    verdict $? "in these words, and makes no file"
+    for size in 0 1 1018 1019 5000 32762; do
+        bytes $size $size >"$T/head"
+        works "header put, $size bytes" header put "$img" X "$T/head" --date $DATE
+        has_header X "$T/head" && $CARD check "$img" >"$T/out" 2>"$T/err" && $CARD get "$img" X | cmp -s - "$T/in"
+        verdict $? "they come out the same, and the file's bytes too"
+        run ls "$img"
+        grep -q "^    1       5000 $(printf %7s $size)  fixed .* X\$" "$T/out"
+        verdict $? "ls has its length"
+    done
+    cp "$T/head" "$T/head.x"
+    bytes 32763 1 >"$T/head"
+    cp "$img" "$T/before.img"
+    refused 7 "a header of 32,763 bytes" header put "$img" X "$T/head" --date $DATE
+    grep -q "at most 32762 bytes" "$T/err" && cmp -s "$img" "$T/before.img" && has_header X "$T/head.x"
+    verdict $? "it says the most, and changes no byte of the image"
+    refused 7 "more than any header" header put "$img" X /dev/zero --date $DATE
+    echo "a header" | $CARD header put "$img" Y - --date $DATE 2>"$T/err"
+    verdict $? "header put from standard input"
+    works "header get to a file" header get "$img" Y "$T/out.y"
+    [ "$(cat "$T/out.y")" = "a header" ]
+    verdict $? "which has exactly its bytes"
+}
+
+# X's header of 32 sectors stands where the places before it were freed: 2048 (0 bytes), 2049 (1), 2048 (1,018), 2049 and
+# 2050 (1,019), 2051 to 2055 (5,000), 2056 to 2087. Y's then has the lowest sector.
+headers_placed() {
+    zone_line 3 "B     33   991" "map has zone B, its sectors in use and free"
+    [ "$(first_bytes 2056)" = "0 0 0 1" ] && [ "$(first_bytes 2048)" = "0 0 0 2" ] && [ "$(first_bytes 2051)" = "0 0 0 0" ]
+    verdict $? "a header begins with its file's id, a replaced one with 0"
+    run map "$img" --svg "$T/pic.svg"
+    grep -q '<title>1 X, header: sectors 2056 to 2087</title>' "$T/pic.svg" &&
+        grep -q '<title>2 Y, header: sectors 2048 to 2048</title>' "$T/pic.svg"
+    verdict $? "the picture has the headers as their files'"
+    drawn=$(sed -n 's/.*: sectors \([0-9]*\) to \([0-9]*\)<.*/\1 \2/p' "$T/pic.svg" | awk '{ n += $2 - $1 + 1 } END { print n }')
+    run info "$img"
+    prints "used               $((drawn + 2048))" "and every sector in use once"
+    works "rm of a file with a header" rm "$img" X --date $DATE
+    [ "$(first_bytes 2056)" = "255 255 255 255" ]
+    verdict $? "the header has minus the id"
+    refused 9 "header get of a temporarily deleted file" header get "$img" 1
+    refused 9 "header put for a temporarily deleted file" header put "$img" 1 "$T/in"
+    run ls "$img" --deleted
+    grep -q "^    1       5000   32762  fixed .* X\$" "$T/out"
+    verdict $? "ls --deleted has its length"
+    works "its recover" recover "$img" X --date $DATE
+    [ "$(first_bytes 2056)" = "0 0 0 1" ] && has_header X "$T/head.x"
+    verdict $? "the header has the id again, and all its bytes"
+    run rm "$img" X --date $DATE
+    works "its purge" purge "$img" X --date $DATE
+    [ "$(first_bytes 2056)" = "0 0 0 0" ]
+    verdict $? "the header has 0"
+    zone_line 3 "B      1  1023" "and its sectors are free"
+    run rm "$img" Y --date $DATE
+    run purge "$img" Y --date $DATE
+    zone_line 3 "\.      -     -" "without a header the zone is open"
+    works "check after all that" check "$img"
+}
+
+headers_refused() {
+    bytes 5000 1 >"$T/in"
+    bytes 1000 2 >"$T/head"
+    run put "$img" "$T/in" --name X --types C --date $DATE
+    run header put "$img" X "$T/head" --date $DATE
+    refused 8 "header put, an id without a file" header put "$img" 5 "$T/head"
+    refused 8 "header get, an id without a file" header get "$img" 5
+    fails "no active file has the name 'Z' (8)" "header get, a name without a file" header get "$img" Z
+    refused 7 "header put in month 13" header put "$img" X "$T/head" --date 2026-13-01T00:00
+    run protect "$img" X --write --date $DATE
+    refused 10 "header put, write-protected" header put "$img" X "$T/head"
+    has_header X "$T/head"
+    verdict $? "header get, write-protected"
+    run protect "$img" X --read --date $DATE
+    refused 10 "header get, read-protected" header get "$img" X
+    works "header put, read-protected" header put "$img" X "$T/head" --date $DATE
+    run protect "$img" X --date $DATE
+    fails "is the image itself" "header put of the image" header put "$img" X "$img"
+    fails "is the image itself" "header get to the image" header get "$img" X "$img"
+    fails "No such file" "header put of a file that is not there" header put "$img" X "$T/nowhere"
+    # X, which has the id that was freed last, 2, has its second header in sector 2049. A length of 3 x 256 + 251 bytes is
+    # one more than the sector holds.
+    [ "$(first_bytes 2049)" = "0 0 0 2" ]
+    verdict $? "the second header of X"
+    cp "$img" "$T/odd.img"
+    set_byte "$T/odd.img" $((1024 * 2049 + 5)) 251
+    fails "more than its sectors hold" "header get of a length that is not there" header get "$T/odd.img" X
+    run ls "$T/odd.img"
+    grep -q "^    2       5000       ?  fixed .* X\$" "$T/out"
+    verdict $? "ls shows it as ?"
+    img=$T/one.img
+    run format "$img" --zones 3 --indexes 8 --date $DATE
+    run put "$img" "$T/in" --name X --types C --date $DATE
+    cp "$img" "$T/before.img"
+    refused 12 "header put without a zone for it" header put "$img" X "$T/in"
+    grep -q "a header of 5000 bytes takes 5 sectors in a row" "$T/err" && cmp -s "$img" "$T/before.img"
+    verdict $? "it says what is needed, and changes no byte of the image"
 }
 
 # --- names and patterns
@@ -242,7 +375,7 @@ names() {
 
 # --- refusals and usage
 # 5 cannot come from the tool, which mounts each volume in memory before it asks anything; 11 cannot, since it grows no
-# fixed file; 14 cannot, since it moves no byte past a file's end.
+# fixed file; 14 comes only for a file without a header, since the tool moves no byte past a file's end.
 
 refusals() {
     img=$T/r.img
@@ -438,9 +571,15 @@ usage() {
     misused "standard input without a name" put "$img" -
     misused "an option given twice" protect "$img" 1 --read --read
     misused "a pattern with --deleted" ls "$img" A --deleted
+    misused "header alone" header
+    misused "header with a word that is none" header frob "$img" A
+    misused "header put without a file" header put "$img" A
+    misused "header get with an option of header put" header get "$img" A --date $DATE
+    grep -qF 'see `card header get --help`' "$T/err"
+    verdict $? "its hint has both words"
     works "--help" --help
     prints "card repair IMAGE" "--help names the commands"
-    for command in format info ls put get rm recover purge protect check map repair; do
+    for command in format info ls put get "header put" "header get" rm recover purge protect check map repair; do
         run $command --help
         [ $status -eq 0 ] && grep -q "^card $command IMAGE" "$T/out" && [ ! -s "$T/err" ]
         verdict $? "$command --help"
@@ -534,11 +673,12 @@ locks() {
 any_command() {
     cp "$1" "$T/any.img"
     for words in info ls "ls --deleted" check "map --svg $T/any.svg" "get 1 $T/any.out" "put $T/in --types C" \
-        "rm 1" "recover 1" "protect 2 --read" "repair --from-backup" repair; do
+        "header:get 1 $T/any.out" "header:put 1 $T/in" "rm 1" "recover 1" "protect 2 --read" "repair --from-backup" \
+        repair; do
         set -- $words
-        command=$1
+        command=$(echo "$1" | tr : ' ')
         shift
-        run "$command" "$T/any.img" "$@"
+        run $command "$T/any.img" "$@"
         [ $status -le 1 ] || return 1
     done
 }
@@ -665,6 +805,23 @@ judge_from_backup() {
     [ $status -eq 0 ] && judge_repair
 }
 
+# Of the old state those sectors of zone 3 that its books have, of the new one all: headers with their ids.
+judge_header() {
+    repaired || return 1
+    if same_zone_1 "$T/was.img"; then
+        sectors "$T/was.img" 2048 3 >"$T/run"
+        sectors "$T/w.img" 2048 3 | cmp -s - "$T/run" || return 1
+    else
+        same_zone_1 "$T/new.img" || return 1
+        sectors "$T/new.img" 2048 1024 >"$T/run"
+        sectors "$T/w.img" 2048 1024 | cmp -s - "$T/run" || return 1
+    fi
+    files_stand && $CARD header get "$T/w.img" A 2>"$T/err" | cmp -s - "$T/h.a"
+}
+judge_headed() {
+    repaired && cmp -s "$T/w.img" "$T/headed.img"
+}
+
 # cuts JUDGE NAME ARGS: from was.img on, the power is cut at every event of the command, in order and out of order.
 cuts() {
     judge=$1 what=$2
@@ -714,6 +871,44 @@ cut_changes() {
     cp "$T/new.img" "$T/was.img"
     cuts judge_change "recover" recover "$T/w.img" C $later
     cuts judge_change "purge" purge "$T/w.img" C $later
+}
+
+# headed.img: a volume of 4 zones with the files A, B and C. The header of A is sector 2048, that of C 2049 and 2050.
+headed_image() {
+    bytes 700 6 >"$T/h.a"
+    bytes 1500 7 >"$T/h.c"
+    bytes 3000 8 >"$T/h.new"
+    run format "$T/headed.img" --zones 4 --indexes 8 --label HEADED --date $DATE
+    for file in A B C; do
+        run put "$T/headed.img" "$T/$(echo $file | tr A-Z a-z)" --name $file --types C --date $DATE
+    done
+    run header put "$T/headed.img" A "$T/h.a" --date $DATE
+    run header put "$T/headed.img" C "$T/h.c" --date $DATE
+    works "a volume with headers" check "$T/headed.img"
+}
+
+cut_headers() {
+    cp "$T/headed.img" "$T/was.img"
+    cuts judge_header "header put in another's place" header put "$T/w.img" C "$T/h.new" $later
+    cuts judge_header "rm, with a header" rm "$T/w.img" C $later
+    cp "$T/new.img" "$T/was.img"
+    cuts judge_header "recover, with a header" recover "$T/w.img" C $later
+    cuts judge_header "purge, with a header" purge "$T/w.img" C $later
+}
+
+# The id in C's header has been changed by rm, the backup has been written, zone 1 not yet.
+cut_header_repairs() {
+    cp "$T/headed.img" "$T/was.img"
+    run rm "$T/was.img" C $later
+    head -c $MIB "$T/headed.img" | dd of="$T/was.img" conv=notrunc 2>/dev/null
+    cuts judge_headed "repair of a header's id" repair "$T/w.img"
+    prints_repair "the backup was made from zone 1"
+    prints_repair "headers whose id was put right: 1"
+    # 77 in A's header is no request's work.
+    set_byte "$T/was.img" $((1024 * 2048 + 3)) 77
+    prints_repair "headers whose id was put right: 1"
+    [ "$(byte_at "$T/w.img" $((1024 * 2048 + 3)))" = 77 ] && [ "$(byte_at "$T/w.img" $((1024 * 2049 + 3)))" = 3 ]
+    verdict $? "it leaves what no request puts there"
 }
 
 cut_repairs() {
@@ -788,6 +983,9 @@ repairs() {
 
 a_day
 a_day_goes_on
+headers
+headers_placed
+headers_refused
 names
 refusals
 protection
@@ -806,6 +1004,9 @@ changed_books
 garbage
 repairs
 cut_changes
+headed_image
+cut_headers
+cut_header_repairs
 cut_repairs
 full_disks
 echo "$passed passed, $failed failed"

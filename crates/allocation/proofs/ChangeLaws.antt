@@ -22,11 +22,11 @@ use Rattle.tables.specs.Same.{Ground}
 use Rattle.tables.specs.Views.{View, Begins, Free, Parent, Child, walk, next, onlyIf, tally, cov, claimsOf, overOf, claimsOver, Under}
 use Rattle.tables.specs.Rules.R4.{R4}
 use Rattle.tables.specs.Rules.R5.{Full, FileChain, Stands, R5}
-use Rattle.tables.specs.Rules.R6.{Run, R6}
+use Rattle.tables.specs.Rules.R6.{Run, HeaderRun, HeaderLaw, R6}
 use Rattle.tables.specs.Rules.R8.{fileSectors, InType, File, FileLaw}
 use Rattle.tables.specs.Rules.R9.{freeOne, activeOne, deletedOne, systemOne, directoryOne, R9}
 use Rattle.tables.proofs.ChainLaws.{walk-same, walk-none}
-use Rattle.tables.proofs.FrameLaws.{header-kept}
+use Rattle.tables.proofs.FrameLaws.{header-kept, header-over-kept}
 use Rattle.tables.proofs.IndexLaws.{slots-parent, slots-in, file-free, file-parent, file-child}
 use Rattle.tables.proofs.Sector1CountLaws.{Ones, only-eq, only-ne, ones-other, free-yes, free-no}
 use Rattle.allocation.specs.declared.growth.Cursor.{Cursor}
@@ -55,7 +55,7 @@ pub record Longer (v v' : View) (f a n : ℕ) (d : ℕ → ℕ) (c : Cursor) : T
   pub held : Held v' f d
   pub ends : Ends v' f c
   pub sectors : fileSectors v' f ≡ fileSectors v f + n
-  pub front : (o : ℕ) → o < 58 → getD (v' .table f) o 0 ≡ getD (v .table f) o 0
+  pub front : (o : ℕ) → o < 64 → getD (v' .table f) o 0 ≡ getD (v .table f) o 0
   pub types : (t : ℕ) → InType v f t → ((s : ℕ) → a ≤ s → s < a + n → v .zone (zoneOf s) .ztype ≡ t) → InType v' f t
 
 -- ---- the file that a table is of, and the pointers of a parent
@@ -131,6 +131,20 @@ run-zones v v' zones zone a c r = record {
 pub ground-run : (v v' : View) → Ground v v' → (a c : ℕ) → Run v a c → Run v' a c
 ground-run v v' g = run-zones v v' (g .zones) (g .zone)
 
+-- and so do headers' runs
+pub header-zones : (v v' : View) → v' .zones ≡ v .zones → ((z : ℕ) → 1 ≤ z → z ≤ v .zones → v' .zone z ≡ v .zone z) → (a c : ℕ) → HeaderRun v a c → HeaderRun v' a c
+header-zones v v' zones zone a c r = record {
+  some = r .some;
+  few = r .few;
+  low = r .low;
+  high = rw zones (r .high);
+  one = r .one;
+  typed = rw (zone (zoneOf a) (omega arith) (omega (arith, r .high, r .some))) (r .typed);
+}
+
+pub ground-header : (v v' : View) → Ground v v' → (t : List ℕ) → HeaderLaw v t → HeaderLaw v' t
+ground-header v v' g t h = record { run = λ u. header-zones v v' (g .zones) (g .zone) _ _ (h .run u) }
+
 -- index j keeps what the chains see of it
 pub record Stays (v v' : View) (j : ℕ) : Type 0 where
   pub link : next v' j ≡ next v j
@@ -193,7 +207,10 @@ module _ (v v' : View) (f x : ℕ) (h : Changed v v' f x) where
 
     pub over-there : (s : ℕ) → claimsOf j (v' .table j) s ≡ claimsOf j (v .table j) s
     unfolding claimsOf overOf
-    over-there s = rw slots-there (sum-same (slotsOf j (v .table j)) _ _ (λ k l. ap₂ (λ (a c : ℕ). cov a c s) (start-there k l) (count-there k l)))
+    over-there s =
+        let pointers = sum-same (slotsOf j (v .table j)) (λ k. cov (startOf j (v' .table j) k) (countOf j (v' .table j) k) s) (λ k. cov (startOf j (v .table j) k) (countOf j (v .table j) k) s)
+        (λ k l. ap₂ (λ (a c : ℕ). cov a c s) (start-there k l) (count-there k l)) in
+        rw (slots-there, pointers, header-over-kept j s (h .kept j lo hi ne) (inl (omega arith)) word-there)
 
     pub sectors-there : sectorsOf j (v' .table j) ≡ sectorsOf j (v .table j)
     unfolding sectorsOf
@@ -215,7 +232,7 @@ module _ (v v' : View) (f x : ℕ) (h : Changed v v' f x) where
       used = λ k l u. (let l' : k < slotsOf j (v .table j) = rw slots-there at l in
           rw (start-there k l', count-there k l') (ground-run v v' (h .ground) _ _ (s .used k l' (rw (start-there k l', count-there k l') at u))));
       one = λ e nf. one (sym word-there ∙ e) (s .one (sym word-there ∙ e) nf);
-      header = λ e. header-kept (h .kept j lo hi ne) (inl (omega arith)) (s .header (sym word-there ∙ e));
+      header = λ e. header-kept (h .kept j lo hi ne) (inl (omega arith)) (ground-header v v' (h .ground) (v .table j) (s .header (sym word-there ∙ e)));
     }
       where
         one : wordOf (v .table j) ≡ j → Used j (v .table j) 0 → Used j (v' .table j) 0

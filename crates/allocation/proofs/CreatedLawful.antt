@@ -112,7 +112,7 @@ module _ (p : Places) (b : List ℕ) (n : New) (counts : List ℕ) {extra : ℕ 
 
     fields : Fields (v .table f) (n .name) (n .date) (n .date) (n .length) (n .attribute)
     fields =
-        fields-front {t = tableAt p (started p b n .books) f} (length-table p (g .books) f layout (h .ends .parent .low) (h .ends .parent .high)) (h .front)
+        fields-front {t = tableAt p (started p b n .books) f} (length-table p (g .books) f layout (h .ends .parent .low) (h .ends .parent .high)) (λ o l. h .front o (omega arith))
         (rw (start-made .new) (parent-fields f n (new .name .most) (new .date .long)))
 
     law : FileLaw v f

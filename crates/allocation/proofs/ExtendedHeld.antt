@@ -7,6 +7,7 @@ use native.Mathlib.Decide.{ℕ-discrete}
 use native.Mathlib.Omega.{arith}
 use lib.ListN.{length}
 use Rattle.field.specs.Kept.{Kept}
+use Rattle.field.specs.Sum.{sumTo}
 use Rattle.field.proofs.Frames.{kept-refl}
 use Rattle.field.proofs.NumberLaws.{u16-kept, u32-kept, kept-putU32, u32-put-same}
 use Rattle.tables.specs.declared.index.Pointer.{Pointer}
@@ -18,7 +19,7 @@ use Rattle.tables.specs.Rules.R6.{Run}
 use Rattle.tables.specs.Rules.R9.{freeOne}
 use Rattle.tables.proofs.ChainLaws.{walk-same, walk-once, chain-one}
 use Rattle.tables.proofs.IndexLaws.{slots-child, base-child, file-child}
-use Rattle.tables.proofs.PointerLaws.{cov-none, over-none}
+use Rattle.tables.proofs.PointerLaws.{cov-none, header-other, over-none}
 use Rattle.tables.proofs.Sector1CountLaws.{only-ne, ones-other}
 use Rattle.tables.proofs.SameLaws.{ground-R2, ground-R3}
 use Rattle.allocation.specs.declared.growth.Cursor.{Cursor}
@@ -71,7 +72,9 @@ module _ (x f : ℕ) (q : Pointer) (lo : 1 ≤ x) (hi : x ≤ 4096) where
   pub new-over : (s : ℕ) → claimsOf x n s ≡ cov (q .start .0) (q .count) s
   unfolding claimsOf overOf
   new-over s =
-      rw new-slots (sum-first 17 _ (omega arith) (λ j h l. rw (no-count j l) (cov-none _ s)) ∙ ap₂ (λ (a c : ℕ). cov a c s) new-start new-count)
+      let pointers : sumTo 17 (λ j. cov (startOf x n j) (countOf x n j) s) ≡ cov (q .start .0) (q .count) s
+      = sum-first 17 _ (omega arith) (λ j h l. rw (no-count j l) (cov-none _ s)) ∙ ap₂ (λ (a c : ℕ). cov a c s) new-start new-count in
+      rw new-slots (omega (arith, header-other x n s (λ z. omega (arith, new-word))))
 
   pub new-sectors : sectorsOf x n ≡ q .count
   unfolding sectorsOf
@@ -211,7 +214,7 @@ module _ (v v' : View) (f : ℕ) (q : Pointer) (c : Cursor) (w : Extended v v' f
       r6 = changed-R6 v v' f x change shape-but (h .r6);
       r7 = record {
         count = λ s l lo. (let l' : s < 1024 * (v .zones - 1) = rw (w .ground .zones) at l in
-            omega (arith, pointers-at v v' f x change s, over-none x (v .table x) s (free .word), over s, less s, h .r7 .count s l' lo, w .ground .bit s (omega arith)));
+            omega (arith, pointers-at v v' f x change s, over-none x (v .table x) s (free .low) (free .word), over s, less s, h .r7 .count s l' lo, w .ground .bit s (omega arith)));
       };
       r8 = changed-R8 v v' f x change (h .r6) (h .r8);
       r9 = changed-R9 v v' f x change 0 0 (freeOne x (v .table x)) 0 0 0 0 (freeOne x t') 0 0 (ones-other x (v .table x) (λ g. omega (arith, free .low, free .word)))

@@ -6,7 +6,7 @@ use Prim.Native.Nat.{ℕ, _+_, _-_, _*_, _≤_, _<_}
 use native.Mathlib.Nat.{mul-comm, mul-assoc}
 use native.Mathlib.Omega.{arith}
 use lib.ListN.{length}
-use Rattle.field.specs.Numbers.{putU32}
+use Rattle.field.specs.Numbers.{u16At, u32At, putU32}
 use Rattle.field.specs.Kept.{Kept}
 use Rattle.field.specs.Parts.{over}
 use Rattle.field.proofs.Frames.{kept-trans, kept-wider}
@@ -17,7 +17,8 @@ use Rattle.tables.specs.Blocks.{DataType, blockOf}
 use Rattle.tables.specs.Counts.{blockBytes}
 use Rattle.tables.specs.Dates.{Date}
 use Rattle.tables.specs.Places.{Layout}
-use Rattle.tables.specs.Indexes.{tablePlace, tableAt, putChanged, nameOf, createdOf, changedOf, lengthOf, attributeOf, Used, variableBit}
+use Rattle.tables.specs.Indexes.{tablePlace, tableAt, putChanged, nameOf, createdOf, changedOf, lengthOf, attributeOf, Used, variableBit, headerStart, headerCount}
+use Rattle.tables.proofs.FrameLaws.{header-start-kept, header-count-kept}
 use Rattle.tables.specs.Views.{View, viewOf, Parent}
 use Rattle.tables.specs.Rules.R8.{fileSectors, fileType, InType, File}
 use Rattle.tables.specs.Lawful.{LawfulWith}
@@ -182,7 +183,18 @@ module _ (p : Places) (b : List ℕ) (f : ℕ) (counts : List ℕ) (long : ℕ) 
       let t = tableAt p b f in
       let old = table-fields t (length-table p b f lay (parent .low) (parent .high)) in
       rw (length-new p a f long date lay-a (parent .low) (parent .high) six) (new-fields p a f long date lay-a (parent .low) (parent .high) six
-      (fields-front {t = t} {changed = changedOf t} {long = lengthOf t} (length-table p a f lay-a (parent .low) (parent .high)) (h .front) old))
+      (fields-front {t = t} {changed = changedOf t} {long = lengthOf t} (length-table p a f lay-a (parent .low) (parent .high)) (λ o l. h .front o (omega arith)) old))
+
+  -- the header pointer, which stands before the pointers, stays
+  header-start : headerStart (tableAt p c f) ≡ headerStart (tableAt p b f)
+  unfolding u32At
+  header-start =
+      header-start-kept (resized .restated .here) (inr (omega arith))
+      ∙ rw (h .front 58 (omega arith), h .front 59 (omega arith), h .front 60 (omega arith), h .front 61 (omega arith)) refl
+
+  header-count : headerCount (tableAt p c f) ≡ headerCount (tableAt p b f)
+  unfolding u16At
+  header-count = header-count-kept (resized .restated .here) (inr (omega arith)) ∙ rw (h .front 62 (omega arith), h .front 63 (omega arith)) refl
 
   held : Held (viewOf p c) f extra
   held = resized-held (viewOf p a) (viewOf p c) f resized (lay .few) (h .ends .parent) (h .held)
@@ -236,6 +248,14 @@ module _ (p : Places) (b : List ℕ) (f : ℕ) (counts : List ℕ) {extra : ℕ 
     pub grown-attribute : attributeOf (tableAt p (grown p b f counts long date) f) ≡ attributeOf (tableAt p b f)
     unfolding grown
     grown-attribute = fields p b f counts long date (has .layout) (has .lawful) parent six _ grown-lengthened .attribute'
+
+    pub grown-header-start : headerStart (tableAt p (grown p b f counts long date) f) ≡ headerStart (tableAt p b f)
+    unfolding grown
+    grown-header-start = header-start p b f counts long date (has .layout) (has .lawful) parent six _ grown-lengthened
+
+    pub grown-header-count : headerCount (tableAt p (grown p b f counts long date) f) ≡ headerCount (tableAt p b f)
+    unfolding grown
+    grown-header-count = header-count p b f counts long date (has .layout) (has .lawful) parent six _ grown-lengthened
 
 pub grown-lawful : (p : Places) (b : List ℕ) (f : ℕ) (counts : List ℕ) (long : ℕ) (date : List ℕ) {extra : ℕ → ℕ} → ProvidedWith extra p b (cursorOf p b f .tail) counts → Parent (viewOf p b) f
     → variableBit (attributeOf (tableAt p b f)) ≡ 1 → AllOf (inOrder counts) (fileType (viewOf p b) f) → Date date → long < 2147483648

@@ -76,6 +76,14 @@ held-rules p b f r1 h used law =
       r9 = h .r9;
     }
 
+-- where no file is left out, nothing is asked besides
+module _ (v : View) {extra : ℕ → ℕ} (h : Held v 0 extra) where
+  pub all-R6 : R6 v
+  all-R6 = held-R6 v 0 h (λ b. absurd (omega (arith, b .low)))
+
+  pub all-R8 : R8 v
+  all-R8 i l lo = h .r8 i l lo (λ z. omega arith)
+
 -- ---- the books' other numbers, from sector 0 and N
 
 module _ (p : Places) (b b' : List ℕ) (q : Quiet p b b') where

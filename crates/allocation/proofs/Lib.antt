@@ -1,7 +1,10 @@
 pub mod FindLaws
 pub mod NextBlockLaws
+pub mod HeaderLaws
+pub mod FilledLaws
 pub mod TakenLaws
 pub mod NextLaws
+pub mod OneZoneLaws
 pub mod StockLaws
 pub mod NextGround
 pub mod ChooseLaws
@@ -30,6 +33,9 @@ pub mod FreshView
 pub mod AddHeld
 pub mod HeldLawful
 pub mod CreatedLawful
+pub mod FrontLaws
 pub mod RestatedLaws
 pub mod StampedLaws
 pub mod GrownLawful
+pub mod HeaderHeld
+pub mod RunTakenLaws

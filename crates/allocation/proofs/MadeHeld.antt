@@ -9,8 +9,8 @@ use native.Mathlib.Omega.{arith}
 use lib.ListN.{length}
 use Rattle.field.proofs.Frames.{kept-refl}
 use Rattle.field.proofs.Sums.{sum-zero}
-use Rattle.tables.specs.Indexes.{wordOf, parentOf, attributeOf, minus, slotsOf, baseOf, startOf, countOf, Used, sectorsOf, fileOf, systemBit, directoryBit}
-use Rattle.tables.specs.Views.{View, Free, Parent, Child, walk, next, tally, claimsOf, overOf, Under}
+use Rattle.tables.specs.Indexes.{wordOf, parentOf, attributeOf, minus, slotsOf, baseOf, startOf, countOf, Used, sectorsOf, fileOf, systemBit, directoryBit, headerStart, headerCount}
+use Rattle.tables.specs.Views.{View, Free, Parent, Child, walk, next, cov, tally, claimsOf, overOf, Under}
 use Rattle.tables.specs.Rules.R2.{R2}
 use Rattle.tables.specs.Rules.R3.{R3}
 use Rattle.tables.specs.Rules.R4.{R4}
@@ -21,14 +21,14 @@ use Rattle.tables.specs.Rules.R8.{fileSectors, InType, R8}
 use Rattle.tables.specs.Rules.R9.{freeOne, R9}
 use Rattle.tables.proofs.ChainLaws.{walk-none}
 use Rattle.tables.proofs.IndexLaws.{slots-parent, base-parent, file-parent}
-use Rattle.tables.proofs.PointerLaws.{cov-none, over-none}
+use Rattle.tables.proofs.PointerLaws.{cov-none, header-over, over-none}
 use Rattle.tables.proofs.Sector1CountLaws.{Ones, only-ne, ones-other, ones-active}
 use Rattle.tables.proofs.SameLaws.{ground-R2, ground-R3}
 use Rattle.allocation.specs.NewTables.{New}
 use Rattle.allocation.specs.NextPointer.{noPointer}
 use Rattle.allocation.specs.Steps.{parentBytes, Made}
 use Rattle.allocation.specs.Held.{ShapeBut, Held, Ends}
-use Rattle.allocation.proofs.PointerBytes.{parent-word, parent-attribute, parent-zero32, parent-zero16, parent-header}
+use Rattle.allocation.proofs.PointerBytes.{parent-word, parent-attribute, parent-zero32, parent-zero16}
 use Rattle.allocation.proofs.ChainedLaws.{head-free}
 use Rattle.allocation.proofs.ChangeLaws.{Changed, free-file, parent-file, child-file, begins-was, file-there, parent-there, pop-R4, changed-R5, changed-R6, pointers-at, sectors-at, changed-R8, free-less, changed-R9}
 
@@ -76,9 +76,16 @@ module _ (x : ℕ) (n : New) (lo : 1 ≤ x) (name : length (n .name) ≤ 24) (da
   no-count : (j : ℕ) → countOf x t j ≡ 0
   no-count j = rw new-base (parent-zero16 x n name date (64 + 6 * j + 4) (omega arith))
 
+  no-header : (headerStart t ≡ 0) × (headerCount t ≡ 0)
+  no-header = (parent-zero32 x n name date 58 (omega arith), parent-zero16 x n name date 62 (omega arith))
+
   new-over : (s : ℕ) → claimsOf x t s ≡ 0
   unfolding claimsOf overOf
-  new-over s = sum-zero (slotsOf x t) _ (λ j l. rw (no-count j) (cov-none _ s))
+  new-over s =
+      let pointers = sum-zero (slotsOf x t) (λ j. cov (startOf x t j) (countOf x t j) s) (λ j l. rw (no-count j) (cov-none _ s)) in
+      let header = header-over x t s (parent-word x n name date) in
+      let none = rw (no-header .1) at header in
+      omega (arith, cov-none (headerStart t) s)
 
   new-sectors : sectorsOf x t ≡ 0
   unfolding sectorsOf
@@ -156,7 +163,7 @@ module _ (v v' : View) (n : New) (s d : ℕ) (w : Made v v' n s d) (few : v .ind
     first = λ j l u. absurd (unused (suc j) u);
     used = λ j l u. absurd (unused j u);
     one = λ e ne. absurd (ne refl);
-    header = λ e. rw (w .new) (record { zero = parent-header x n name date });
+    header = λ e. rw (w .new) (record { run = λ u. absurd (omega (arith, no-header x n (free .low) name date)) });
   }
 
   ones : Ones x t' 1 0 (freeOne x t') (systemBit (n .attribute)) (directoryBit (n .attribute))
@@ -175,7 +182,7 @@ module _ (v v' : View) (n : New) (s d : ℕ) (w : Made v v' n s d) (few : v .ind
       r6 = changed-R6 v v' x x change shape-but (h .r6);
       r7 = record {
         count = λ m l lo. (let l' : m < 1024 * (v .zones - 1) = rw (w .ground .zones) at l in
-            omega (arith, pointers-at v v' x x change m, over-none x (v .table x) m (free .word), over m, h .r7 .count m l' lo, w .ground .bit m (omega arith)));
+            omega (arith, pointers-at v v' x x change m, over-none x (v .table x) m (free .low) (free .word), over m, h .r7 .count m l' lo, w .ground .bit m (omega arith)));
       };
       r8 = changed-R8 v v' x x change (h .r6) (h .r8);
       r9 = changed-R9 v v' x x change 0 0 (freeOne x (v .table x)) 0 0 1 0 (freeOne x t') (systemBit (n .attribute)) (directoryBit (n .attribute))

@@ -8,7 +8,7 @@ use native.Mathlib.Omega.{arith}
 use lib.ListN.{getD, length, replicate, length-replicate, List·getD-eq-default}
 use Rattle.field.specs.Numbers.{u16At, u32At, putU16, putU32}
 use Rattle.field.specs.Kept.{Kept, Apart}
-use Rattle.field.specs.Parts.{over, AllBytes}
+use Rattle.field.specs.Parts.{over}
 use Rattle.field.proofs.Frames.{kept-trans, kept-wider}
 use Rattle.field.proofs.NumberLaws.{u16-kept, u32-kept, kept-putU16, kept-putU32, u16-put-same, u32-put-same, getD-zeros, u16-zeros, u32-zeros}
 use Rattle.field.proofs.PartLaws.{kept-over, over-part, same-at}
@@ -218,6 +218,3 @@ module _ (x : ℕ) (n : New) (name : length (n .name) ≤ 24) (date : length (n 
 
   pub parent-zero16 : (o : ℕ) → 46 ≤ o → u16At (parentBytes x n) o ≡ 0
   parent-zero16 o l = u16-kept o kept-parent (inr l) ∙ u16-zeros 128 o
-
-  pub parent-header : AllBytes (parentBytes x n) 58 6 0
-  parent-header k l = kept-parent .out (58 + k) (inr (omega arith)) ∙ getD-zeros 128 (58 + k)

@@ -1,29 +1,21 @@
--- A file's parent of which bytes 34 to 45, the change date, the byte length and the attribute, may be others: the file's pointers stay, and
--- the rules but R9, which is asked for.
-use mathlib.Core.Path.{_≡_, refl, sym, ap, ap₂, _∙_}
-use mathlib.Core.Logic.{_≢_, inl, inr}
-use mathlib.Core.List.{List}
-use Prim.Native.Nat.{ℕ, suc, _-_, _*_, _≤_, _<_}
-use native.Mathlib.Decide.{ℕ-discrete}
+-- A file's parent of which bytes 34 to 45, the change date, the byte length and the attribute, may be others: the file's pointers and its header
+-- pointer stay, and the rules but R9, which is asked for.
+use mathlib.Core.Path.{_≡_, ap}
+use mathlib.Core.Logic.{_≢_, inr}
+use Prim.Native.Nat.{ℕ, _+_, _≤_}
 use native.Mathlib.Omega.{arith}
 use Rattle.field.specs.Kept.{Kept}
-use Rattle.field.proofs.Frames.{kept-refl}
-use Rattle.field.proofs.NumberLaws.{u32-kept}
-use Rattle.field.proofs.Sums.{sum-same}
-use Rattle.tables.specs.Kinds.{zoneOf}
+use Rattle.field.proofs.Frames.{kept-wider}
 use Rattle.tables.specs.Same.{Ground}
-use Rattle.tables.specs.Indexes.{wordOf, parentOf, minus, slotsOf, baseOf, startOf, countOf, Used, sectorsOf, fileOf}
-use Rattle.tables.specs.Views.{View, Parent, Child, walk, next, cov, claimsOf, overOf, Under}
-use Rattle.tables.specs.Rules.R5.{Stands}
+use Rattle.tables.specs.Indexes.{startOf, countOf, Used}
+use Rattle.tables.specs.Views.{View, Parent}
 use Rattle.tables.specs.Rules.R8.{fileSectors, InType}
 use Rattle.tables.specs.Rules.R9.{R9}
-use Rattle.tables.proofs.Sector1CountLaws.{only-eq}
-use Rattle.tables.proofs.SameLaws.{ground-R2, ground-R3}
-use Rattle.tables.proofs.FrameLaws.{header-kept}
-use Rattle.tables.proofs.IndexLaws.{base-parent}
-use Rattle.allocation.specs.Held.{ShapeBut, Held}
-use Rattle.allocation.proofs.PointerBytes.{word-kept, parent-kept, slots-kept, file-kept, start-kept, count-kept}
-use Rattle.allocation.proofs.ChangeLaws.{Changed, Stays, stays-same, member-begins, parent-file, ground-run, walk-stays, chain-stays, parent-there, begins-was, stay-R4, changed-R5, changed-R6, pointers-at, sectors-at, under-zone, changed-types, changed-R8}
+use Rattle.tables.proofs.FrameLaws.{header-kept, header-over-kept}
+use Rattle.allocation.specs.Held.{Held}
+use Rattle.allocation.proofs.PointerBytes.{word-kept}
+use Rattle.allocation.proofs.ChangeLaws.{Changed, ground-header}
+use Rattle.allocation.proofs.FrontLaws.{Fronted, fronted-parent, fronted-start, fronted-count, fronted-change, fronted-used, fronted-sectors, fronted-held, fronted-types}
 
 -- of file f's parent only bytes 34 to 45 are others, of sector 1 what R9 alone sees
 pub record Restated (v v' : View) (f : ℕ) : Type 0 where
@@ -33,116 +25,35 @@ pub record Restated (v v' : View) (f : ℕ) : Type 0 where
   pub here : Kept (v .table f) (v' .table f) 34 12
   pub there : (j : ℕ) → 1 ≤ j → j ≤ v .indexes → j ≢ f → v' .table j ≡ v .table j
 
+-- they stand before its pointers
+fronted : (v v' : View) (f : ℕ) → Restated v v' f → Fronted v v' f
+fronted v v' f w = record { ground = w .ground; indexes = w .indexes; head = w .head; here = kept-wider (w .here) (omega arith) (omega arith); there = w .there }
+
 pub restated-parent : (v v' : View) (f : ℕ) → Restated v v' f → Parent v f → Parent v' f
-restated-parent v v' f w parent = record { low = parent .low; high = rw (w .indexes) (parent .high); word = word-kept f (w .here) (omega arith) ∙ parent .word }
+restated-parent v v' f w = fronted-parent v v' f (fronted v v' f w)
 
 module _ (v v' : View) (f : ℕ) (w : Restated v v' f) (few : v .indexes ≤ 4096) (parent : Parent v f) where
-  abbrev t : List ℕ
-  t = v .table f
+  pub restated-start : (j : ℕ) → startOf f (v' .table f) j ≡ startOf f (v .table f) j
+  restated-start = fronted-start v v' f (fronted v v' f w) few parent
 
-  abbrev t' : List ℕ
-  t' = v' .table f
-
-  base : baseOf f t ≡ 64
-  base = base-parent f t (parent .word)
-
-  same-slots : slotsOf f t' ≡ slotsOf f t
-  same-slots = slots-kept f (w .here) (omega arith)
-
-  pub restated-start : (j : ℕ) → startOf f t' j ≡ startOf f t j
-  restated-start j = start-kept f (w .here) (omega arith) j (inr (omega (arith, base)))
-
-  pub restated-count : (j : ℕ) → countOf f t' j ≡ countOf f t j
-  restated-count j = count-kept f (w .here) (omega arith) j (inr (omega (arith, base)))
-
-  same-over : (s : ℕ) → claimsOf f t' s ≡ claimsOf f t s
-  unfolding claimsOf overOf
-  same-over s = rw same-slots (sum-same (slotsOf f t) _ _ (λ j l. ap₂ (λ (a c : ℕ). cov a c s) (restated-start j) (restated-count j)))
-
-  same-own : sectorsOf f t' ≡ sectorsOf f t
-  unfolding sectorsOf
-  same-own = rw same-slots (sum-same (slotsOf f t) _ _ (λ j l. restated-count j))
+  pub restated-count : (j : ℕ) → countOf f (v' .table f) j ≡ countOf f (v .table f) j
+  restated-count = fronted-count v v' f (fronted v v' f w) few parent
 
   pub restated-change : Changed v v' f f
-  restated-change = record {
-    ground = w .ground;
-    indexes = w .indexes;
-    few = few;
-    file = parent .low;
-    low = parent .low;
-    high = parent .high;
-    kept = λ j lo hi ne. rw (w .there j lo hi ne) (kept-refl (v .table j) 124 4);
-    there = λ j lo hi ne nf. w .there j lo hi ne;
-    was = inl (parent-file v f parent);
-    now = file-kept f (w .here) (omega arith) ∙ parent-file v f parent;
-    word = inl (word-kept f (w .here) (omega arith) ∙ parent .word);
-  }
+  restated-change = fronted-change v v' f (fronted v v' f w) few parent
 
-  pub restated-used : Used f t 0 → Used f t' 0
-  restated-used u = rw (restated-start 0, restated-count 0) u
+  pub restated-used : Used f (v .table f) 0 → Used f (v' .table f) 0
+  restated-used = fronted-used v v' f (fronted v v' f w) few parent
 
   pub restated-sectors : fileSectors v' f ≡ fileSectors v f
-  restated-sectors = omega (arith, sectors-at v v' f f restated-change, only-eq (fileOf f t) f (sectorsOf f t) (parent-file v f parent), same-own)
-
-  stays-own : Stays v v' f
-  stays-own = record {
-    link = u32-kept 124 (w .here) (inr (omega arith));
-    word = word-kept f (w .here) (omega arith);
-    parent = parent-kept f (w .here) (omega arith);
-    full = λ full j l. (let l' : j < slotsOf f t = rw same-slots at l in rw (restated-start j, restated-count j) (full j l'));
-  }
+  restated-sectors = fronted-sectors v v' f (fronted v v' f w) few parent
 
   module _ {extra : ℕ → ℕ} (h : Held v f extra) where
-    stays : (k : ℕ) → k < suc (h .r5 .long f) → Stays v v' (walk (next v) f k)
-    stays k l =
-        let b = member-begins v few f (h .r5 .long f) parent (h .r5 .chain f parent) k l .1 in
-        elim (ℕ-discrete (walk (next v) f k) f) [ yes e ↦ rw e stays-own | no ne ↦ stays-same v v' _ (w .there _ (b .low) (b .high) ne) ]
-
-    own-stands : (c : ℕ) → Child v' c → parentOf (v' .table c) ≡ f → Stands v' f (h .r5 .long f) c
-    own-stands c b e =
-        let hi : c ≤ v .indexes = rw (w .indexes) at (b .high) in
-        let ne : c ≢ f = λ q. (let z : minus c ≡ c = sym (b .word) ∙ ap (λ (i : ℕ). wordOf (v' .table i)) q ∙ restated-parent v v' f w parent .word ∙ sym q in omega arith) in
-        let q : parentOf (v .table c) ≡ f = sym (parent-there v v' f f restated-change c (b .low) hi ne) ∙ e in
-        let o = rw q at (h .r5 .stands c (begins-was v v' f f restated-change c (b .low) hi ne (minus c) b)) in
-        record {
-          parent = restated-parent v v' f w parent;
-          place = o .place;
-          below = o .below;
-          here = walk-stays v v' (w .indexes) f (h .r5 .long f) (h .r5 .chain f parent) stays (suc (o .place)) (omega (arith, o .below)) ∙ o .here;
-        }
-
-    own-shape : ShapeBut v' f f t'
-    own-shape =
-        let s = h .r6 f (omega (arith, parent .high)) (parent .low) in
-        record {
-          first = λ j l u. (let l' : suc j < slotsOf f t = rw same-slots at l in rw (restated-start j, restated-count j) (s .first j l' (rw (restated-start (suc j), restated-count (suc j)) at u)));
-          used = λ j l u. (let l' : j < slotsOf f t = rw same-slots at l in
-              rw (restated-start j, restated-count j) (ground-run v v' (w .ground) _ _ (s .used j l' (rw (restated-start j, restated-count j) at u))));
-          one = λ e ne. absurd (ne refl);
-          header = λ e. header-kept (w .here) (inr (omega arith)) (s .header (parent .word));
-        }
-
     pub restated-held : R9 v' → Held v' f extra
-    restated-held r9 = record {
-      r2 = ground-R2 v v' (w .ground) (h .r2);
-      r3 = ground-R3 v v' (w .ground) (h .r3);
-      r4 = stay-R4 v v' f f restated-change (w .head) (λ z. omega (arith, parent .low, parent .word)) (h .r4);
-      r5 = changed-R5 v v' f f restated-change (h .r5) (h .r5 .long f) (chain-stays v v' (w .indexes) f (h .r5 .long f) (h .r5 .chain f parent) stays) own-stands
-          (λ b. absurd (omega (arith, b .word, restated-parent v v' f w parent .word, b .high, w .indexes)));
-      r6 = changed-R6 v v' f f restated-change own-shape (h .r6);
-      r7 = record {
-        count = λ s l lo. (let l' : s < 1024 * (v .zones - 1) = rw (w .ground .zones) at l in
-            omega (arith, pointers-at v v' f f restated-change s, same-over s, h .r7 .count s l' lo, w .ground .bit s (omega arith)));
-      };
-      r8 = changed-R8 v v' f f restated-change (h .r6) (h .r8);
-      r9 = r9;
-    }
+    restated-held =
+        let o = h .r6 f (omega (arith, parent .high)) (parent .low) .header (parent .word) in
+        fronted-held v v' f (fronted v v' f w) few parent h extra (header-kept (w .here) (inr (omega arith)) (ground-header v v' (w .ground) (v .table f) o))
+        (λ s. ap (λ (n : ℕ). n + extra s) (header-over-kept f s (w .here) (inr (omega arith)) (word-kept f (w .here) (omega arith))))
 
     pub restated-types : (y : ℕ) → InType v f y → InType v' f y
-    restated-types y all = changed-types v v' f f restated-change (h .r6) y all new
-      where
-        new : (j s : ℕ) → Under v' f j s → v' .zone (zoneOf s) .ztype ≡ y
-        new j s u =
-            let o : Under v f j s
-            = record { low = parent .low; high = parent .high; slot = rw same-slots at (u .slot); from = rw (restated-start j) at (u .from); to = rw (restated-start j, restated-count j) at (u .to) } in
-            rw (under-zone v v' f f restated-change (h .r6) f j s o) (all f j s (parent-file v f parent) o)
+    restated-types = fronted-types v v' f (fronted v v' f w) few parent h

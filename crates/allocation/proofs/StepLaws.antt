@@ -98,7 +98,7 @@ module _ {p : Places} {len : ℕ} (lay : Layout p len) {b b' : List ℕ} where
 
 -- ---- a pointer
 
-kept-pointer : (p : Places) (b : List ℕ) (i at : ℕ) (q : Pointer) → at + 6 ≤ 128 → Kept b (putPointer p b i at q) (tablePlace p i) 128
+pub kept-pointer : (p : Places) (b : List ℕ) (i at : ℕ) (q : Pointer) → at + 6 ≤ 128 → Kept b (putPointer p b i at q) (tablePlace p i) 128
 unfolding putPointer
 kept-pointer p b i at q h =
     let b₁ = putU32 b (tablePlace p i + at) (q .start .0) in

@@ -1,6 +1,6 @@
 -- A block taken keeps R2 and R3, and one that fits leaves room for the others.
 use mathlib.Core.Path.{_≡_, refl, sym, ap, ap₂, _∙_}
-use mathlib.Core.Logic.{_≢_, inl, inr, ⊎-elim}
+use mathlib.Core.Logic.{_≢_, ⊎-elim}
 use mathlib.Core.Bool.{false}
 use mathlib.Core.List.{List, _∷_}
 use Prim.Native.Nat.{ℕ, zero, suc, _+_, _-_, _*_, _/_, _≤_, _<_}
@@ -19,17 +19,17 @@ use Rattle.tables.specs.Rules.R1.{ceil}
 use Rattle.tables.specs.Rules.R2.{R2}
 use Rattle.tables.specs.Rules.R3.{R3, Blocks}
 use Rattle.tables.specs.Views.{View, cov, onlyIf}
-use Rattle.tables.proofs.BlockLaws.{data-zone, block-of, data-block, block-in, block-end}
+use Rattle.tables.proofs.BlockLaws.{data-zone, data-block, block-in, block-end}
 use Rattle.tables.proofs.ChoiceLaws.{ceil-least, ceil-enough}
 use Rattle.tables.proofs.LackLaws.{some-blocks, in-open, in-other, in-begun}
 use Rattle.tables.proofs.OpenLaws.{open-typed}
 use Rattle.tables.proofs.PointerLaws.{cov-in, cov-before, cov-after}
-use Rattle.tables.proofs.SameLaws.{blocks-same}
 use Rattle.allocation.specs.declared.choice.Found.{Found}
 use Rattle.allocation.specs.Choice.{blockStart}
 use Rattle.allocation.specs.Stock.{howMany, AllTyped, Stocked}
 use Rattle.allocation.specs.Candidates.{Proper}
 use Rattle.allocation.specs.Steps.{Choosable, Taken}
+use Rattle.allocation.proofs.OneZoneLaws.{cov-away, one-R2, one-R3}
 use Rattle.allocation.proofs.NextLaws.{OfBegun, OfOpen, Fit, fit-choosable, howMany-own, howMany-other, none-spare}
 
 -- ---- a zone's blocks, where block k of them is taken
@@ -77,47 +77,22 @@ module _ (v v' : View) (t : ℕ) (k : Found) (c : Choosable v t k) (taken : Take
   unfolding blockStart
   bits-there z lo hi ne n l =
       let p = c .proper in
-      let i = block-in (k .number) (blockOf t) (data-block t (p .typed)) (p .within) in
-      let e = taken .bit (firstOf z + n) (omega arith) in
-      let q : cov (blockStart t k) (blockOf t) (firstOf z + n) ≡ 0
-      = elim (decLt z (k .zone .0)) [
-        | yes h ↦ cov-before (blockStart t k) (blockOf t) (firstOf z + n) (omega arith)
-        | no h ↦ cov-after (blockStart t k) (blockOf t) (firstOf z + n) (omega (arith, p .low))
-      ] in
-      omega arith
+      let away = cov-away (k .zone .0) (k .number * blockOf t) (blockOf t) z n (p .low) (block-in (k .number) (blockOf t) (data-block t (p .typed)) (p .within)) lo ne l in
+      omega (arith, taken .bit (firstOf z + n) (omega arith))
 
   pub taken-R2 : R2 v → R2 v'
-  taken-R2 r z l lo =
+  taken-R2 =
       let p = c .proper in
-      let hi : z ≤ v .zones = omega (arith, taken .zones) in
-      elim (ℕ-discrete z (k .zone .0)) [
-        | yes e ↦ record {
-          first = λ q. absurd (omega (arith, p .low));
-          last = λ q. absurd (omega (arith, p .high, taken .zones));
-          other = λ a b. inr (record { typed = rw (e, taken .here) (data-zone (p .typed)); third = rw (e, taken .here) refl });
-        }
-        | no ne ↦ (let e = taken .there z lo hi ne in
-            let same = bits-there z lo hi ne in
-            let o = r z (omega arith) lo in
-            record {
-              first = λ q. (rw (e, taken .zones) (o .first q .0), λ n ln. same n ln ∙ o .first q .1 n ln);
-              last = λ q. (let x = o .last (q ∙ taken .zones) in (rw e (x .0), λ n ln. same n ln ∙ x .1 n ln));
-              other = λ a b. ⊎-elim (λ u. inl (record { reads = rw e (u .reads); clear = λ n ln. same n ln ∙ u .clear n ln }))
-                  (λ u. inr (record { typed = rw e (u .typed); third = rw e (u .third) })) (o .other a (rw (taken .zones) at b));
-            })
-      ]
+      one-R2 v v' (k .zone .0) (p .low) (p .high) (taken .zones) (taken .there) bits-there (record { typed = rw (taken .here) (data-zone (p .typed)); third = rw (taken .here) refl })
 
   pub taken-R3 : R3 v → R3 v'
   unfolding blockStart
-  taken-R3 r z l lo =
+  taken-R3 =
       let p = c .proper in
-      let l' : z < v .zones = rw (taken .zones) at l in
-      elim (ℕ-discrete z (k .zone .0)) [
-        | yes e ↦ rw (e, taken .here) (λ _. block-taken (v .bit) (v' .bit) (firstOf (k .zone .0)) (blockOf t) (k .free) (k .number) (data-block t (p .typed)) (p .within)
-            (rw add-zero at (c .clear 0 (data-block t (p .typed) .some))) (λ s ls. taken .bit s (omega (arith, p .high, p .low))) (c .was))
-        | no ne ↦ rw (taken .there z (omega arith) (omega arith) ne) (λ typed.
-            blocks-same (v .bit) (v' .bit) (firstOf z) (blockOf (v .zone z .ztype)) (block-of _ typed) (bits-there z (omega arith) (omega arith) ne) (v .zone z .free) (r z l' lo typed))
-      ]
+      let own = data-block t (p .typed) in
+      one-R3 v v' (k .zone .0) (p .low) (p .high) (taken .zones) (taken .there) bits-there
+      (rw (taken .here) (block-taken (v .bit) (v' .bit) (firstOf (k .zone .0)) (blockOf t) (k .free) (k .number) own (p .within)
+      (rw add-zero at (c .clear 0 (own .some))) (λ s ls. taken .bit s (omega (arith, p .high, p .low))) (c .was)))
 
 -- ---- room
 

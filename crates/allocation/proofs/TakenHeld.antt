@@ -9,19 +9,19 @@ use native.Mathlib.Omega.{arith}
 use Rattle.tables.specs.declared.zone.ZoneEntry.{ZoneEntry}
 use Rattle.tables.specs.Kinds.{zoneOf, firstOf}
 use Rattle.tables.specs.Blocks.{Block, blockOf, Whole}
-use Rattle.tables.specs.Indexes.{linkOf}
-use Rattle.tables.specs.Views.{View, Begins, Parent, walk, next, cov, tally, claimsOf, claimsOver, Under}
+use Rattle.tables.specs.Indexes.{linkOf, headerStart}
+use Rattle.tables.specs.Views.{View, Begins, Parent, walk, next, cov, tally, claimsOf, claimsOver, Under, UnderHeader}
 use Rattle.tables.specs.Same.{Same}
 use Rattle.tables.specs.Rules.R2.{R2, ZoneBits}
 use Rattle.tables.specs.Rules.R3.{R3}
 use Rattle.tables.specs.Rules.R4.{R4}
 use Rattle.tables.specs.Rules.R5.{FileChain, R5}
-use Rattle.tables.specs.Rules.R6.{Run}
+use Rattle.tables.specs.Rules.R6.{Run, HeaderRun, HeaderLaw}
 use Rattle.tables.specs.Rules.R8.{fileSectors, InType, File}
 use Rattle.tables.specs.Rules.R9.{freeOne, activeOne, deletedOne, systemOne, directoryOne, R9}
 use Rattle.tables.proofs.BlockLaws.{block-of, data-block, block-end, block-in}
 use Rattle.tables.proofs.ChainLaws.{walk-same}
-use Rattle.tables.proofs.PointerLaws.{cov-in, cov-before, cov-after, cov-cases, under-claims}
+use Rattle.tables.proofs.PointerLaws.{cov-in, cov-before, cov-after, cov-cases, under-claims, header-claims}
 use Rattle.tables.proofs.SameLaws.{same-begins, same-R4, same-R5, same-chain, same-tally, under-same}
 use Rattle.allocation.specs.declared.choice.Found.{Found}
 use Rattle.allocation.specs.declared.growth.Cursor.{Cursor}
@@ -72,6 +72,17 @@ module _ (v v' : View) (zones : v' .zones ≡ v .zones) (either : (z : ℕ) → 
     where
       none : (z : ℕ) → ZoneBits v z 0 → (x : ℕ) → x < 1024 → cov a c (firstOf z + x) ≡ 0
       none z clear x l = ⊎-elim (λ h. absurd (omega (arith, set (firstOf z + x) (h .low) (h .high), clear x l))) (λ e. e) (cov-cases a c (firstOf z + x))
+
+  -- a header's run, of which one sector is set
+  pub header-run-kept : (a c : ℕ) → HeaderRun v a c → v .bit a ≡ 1 → HeaderRun v' a c
+  header-run-kept a c r set = record {
+    some = r .some;
+    few = r .few;
+    low = r .low;
+    high = rw zones (r .high);
+    one = r .one;
+    typed = type-kept a (omega (arith, r .high, r .some)) (r .low) set ∙ r .typed;
+  }
 
 module _ {v v' : View} {t : ℕ} {k : Found} (can : Choosable v t k) (took : Taken v v' t k) where
   type-or-clear : (z : ℕ) → 2 ≤ z → z < v .zones → (v' .zone z .ztype ≡ v .zone z .ztype) ⊎ ZoneBits v z 0
@@ -216,40 +227,64 @@ module _ {v : View} {f : ℕ} {d : ℕ → ℕ} (held : Held v f d) where
       let r = under-run v f (held .r6) i j s u in
       omega (arith, held .r7 .count s (omega (arith, r .high, u .to)) (omega (arith, r .low, u .from)), bits s, under-claims v s i j u)
 
-module _ {v v' : View} {t : ℕ} {k : Found} (can : Choosable v t k) (took : Taken v v' t k) (files : SameFiles v v') (bits : (s : ℕ) → v .bit s < 2)
-    {f : ℕ} {d : ℕ → ℕ} (held : Held v f d) where
+  -- and what lies under a header pointer
+  pub held-headed : ((s : ℕ) → v .bit s < 2) → (i s : ℕ) → UnderHeader v i s → v .bit s ≡ 1
+  held-headed bits i s u =
+      let r = held .r6 i (omega (arith, u .parent .high)) (u .parent .low) .header (u .parent .word) .run (omega (arith, u .from, u .to)) in
+      omega (arith, held .r7 .count s (omega (arith, r .high, u .to)) (omega (arith, r .low, u .from)), bits s, header-claims v s i u)
+
+-- clear sectors are set and are not yet under a pointer, and only a clear zone gets another type
+module _ {v v' : View} (zones : v' .zones ≡ v .zones) (either : (z : ℕ) → 2 ≤ z → z < v .zones → (v' .zone z .ztype ≡ v .zone z .ztype) ⊎ ZoneBits v z 0) (files : SameFiles v v')
+    (bits : (s : ℕ) → v .bit s < 2) {f : ℕ} {d : ℕ → ℕ} (held : Held v f d) where
   under-type : (i j s : ℕ) → Under v i j s → v' .zone (zoneOf s) .ztype ≡ v .zone (zoneOf s) .ztype
   under-type i j s u =
       let r = under-run v f (held .r6) i j s u in
-      type-kept v v' (took .zones) (type-or-clear can took) s (omega (arith, r .high, u .to)) (omega (arith, r .low, u .from)) (held-set held bits i j s u)
+      type-kept v v' zones either s (omega (arith, r .high, u .to)) (omega (arith, r .low, u .from)) (held-set held bits i j s u)
 
-  pub taken-types : (q ty : ℕ) → InType v q ty → InType v' q ty
-  taken-types q ty h i j s e u =
+  pub filled-types : (q ty : ℕ) → InType v q ty → InType v' q ty
+  filled-types q ty h i j s e u =
       let w = files-under files i j s u in
       under-type i j s w ∙ h i j s (rw (files .table i (w .low) (w .high)) at e) w
 
-  taken-file : (p : ℕ) → Parent v p → p ≢ f → File v p (v .table p) → File v' p (v' .table p)
-  taken-file p h ne = file-same v v' under-type p (other-under v f (held .r6) p h ne) (files .table p (h .low) (h .high))
+  filled-file : (p : ℕ) → Parent v p → p ≢ f → File v p (v .table p) → File v' p (v' .table p)
+  filled-file p h ne = file-same v v' under-type p (other-under v f (held .r6) p h ne) (files .table p (h .low) (h .high))
       (λ i j s e u. let w = files-under files i j s u in (rw (files .table i (w .low) (w .high)) at e, w)) (files-sectors files p)
 
-  taken-shape : (i : ℕ) → 1 ≤ i → i ≤ v .indexes → ShapeBut v f i (v .table i) → ShapeBut v' f i (v .table i)
-  taken-shape i lo hi h = record {
-    first = h .first;
-    used = λ j l u. run-kept v v' (took .zones) (type-or-clear can took) _ _ (h .used j l u) (λ s a b. held-set held bits i j s (record { low = lo; high = hi; slot = l; from = a; to = b }));
-    one = h .one;
-    header = h .header;
+  -- a parent's header
+  filled-header : (i : ℕ) → Parent v i → HeaderLaw v (v .table i) → HeaderLaw v' (v .table i)
+  filled-header i h law = record {
+    run = λ u. (let r = law .run u in
+        header-run-kept v v' zones either _ _ r (held-headed held bits i (headerStart (v .table i)) (record { parent = h; from = omega arith; to = omega (arith, r .some) })));
   }
 
-  pub taken-held : R2 v' → R3 v' → Held v' f (λ s. d s + cov (blockStart t k) (blockOf t) s)
-  taken-held r2 r3 = record {
+  filled-shape : (i : ℕ) → 1 ≤ i → i ≤ v .indexes → ShapeBut v f i (v .table i) → ShapeBut v' f i (v .table i)
+  filled-shape i lo hi h = record {
+    first = h .first;
+    used = λ j l u. run-kept v v' zones either _ _ (h .used j l u) (λ s a b. held-set held bits i j s (record { low = lo; high = hi; slot = l; from = a; to = b }));
+    one = h .one;
+    header = λ e. filled-header i (record { low = lo; high = hi; word = e }) (h .header e);
+  }
+
+  -- e counts the sectors that are set
+  pub filled-held : (e : ℕ → ℕ) → ((s : ℕ) → s < 1024 * v .zones → v' .bit s ≡ v .bit s + e s) → R2 v' → R3 v' → Held v' f (λ s. d s + e s)
+  filled-held e bit r2 r3 = record {
     r2 = r2;
     r3 = r3;
     r4 = files-R4 files (held .r4);
     r5 = files-R5 files (held .r5);
     r6 = λ i l lo. (let hi : i ≤ v .indexes = omega (arith, files .indexes) in
-        rw (files .table i lo hi) (taken-shape i lo hi (held .r6 i (omega arith) lo)));
-    r7 = record { count = λ s l lo. (let l' : s < 1024 * (v .zones - 1) = rw (took .zones) at l in omega (arith, files-over files s, held .r7 .count s l' lo, took .bit s (omega arith))) };
+        rw (files .table i lo hi) (filled-shape i lo hi (held .r6 i (omega arith) lo)));
+    r7 = record { count = λ s l lo. (let l' : s < 1024 * (v .zones - 1) = rw zones at l in omega (arith, files-over files s, held .r7 .count s l' lo, bit s (omega arith))) };
     r8 = λ p l lo ne. (let hi : p ≤ v .indexes = omega (arith, files .indexes) in
-        λ w. (let word = rw (files .table p lo hi) at w in taken-file p (record { low = lo; high = hi; word = word }) ne (held .r8 p (omega arith) lo ne word)));
+        λ w. (let word = rw (files .table p lo hi) at w in filled-file p (record { low = lo; high = hi; word = word }) ne (held .r8 p (omega arith) lo ne word)));
     r9 = files-R9 files (held .r9);
   }
+
+-- a block is taken
+module _ {v v' : View} {t : ℕ} {k : Found} (can : Choosable v t k) (took : Taken v v' t k) (files : SameFiles v v') (bits : (s : ℕ) → v .bit s < 2)
+    {f : ℕ} {d : ℕ → ℕ} (held : Held v f d) where
+  pub taken-types : (q ty : ℕ) → InType v q ty → InType v' q ty
+  taken-types = filled-types (took .zones) (type-or-clear can took) files bits held
+
+  pub taken-held : R2 v' → R3 v' → Held v' f (λ s. d s + cov (blockStart t k) (blockOf t) s)
+  taken-held = filled-held (took .zones) (type-or-clear can took) files bits held (cov (blockStart t k) (blockOf t)) (took .bit)

@@ -13,14 +13,14 @@ use Rattle.field.proofs.NumberLaws.{u16-kept, u32-kept}
 use Rattle.tables.specs.declared.index.Pointer.{Pointer}
 use Rattle.tables.specs.Kinds.{zoneOf}
 use Rattle.tables.specs.Indexes.{wordOf, parentOf, minus, slotsOf, baseOf, startOf, countOf, Used, sectorsOf, fileOf, pointerPlace}
-use Rattle.tables.specs.Views.{View, Begins, Parent, Child, walk, next, cov, claimsOf, overOf, Under}
+use Rattle.tables.specs.Views.{View, Begins, Parent, Child, walk, next, cov, headerOver, claimsOf, overOf, Under}
 use Rattle.tables.specs.Rules.R5.{FileChain, Stands, R5}
 use Rattle.tables.specs.Rules.R6.{Run}
 use Rattle.tables.specs.Rules.R8.{InType}
 use Rattle.tables.proofs.ChainLaws.{chain-one}
-use Rattle.tables.proofs.FrameLaws.{header-kept}
+use Rattle.tables.proofs.FrameLaws.{header-kept, header-over-kept}
 use Rattle.tables.proofs.IndexLaws.{slots-in, base-parent, base-low}
-use Rattle.tables.proofs.PointerLaws.{cov-cases, cov-in, cov-none, cov-join}
+use Rattle.tables.proofs.PointerLaws.{cov-cases, cov-in, cov-none, cov-join, header-other}
 use Rattle.tables.proofs.Sector1CountLaws.{only-eq}
 use Rattle.tables.proofs.SameLaws.{ground-R2, ground-R3}
 use Rattle.allocation.specs.declared.growth.Cursor.{Cursor}
@@ -30,7 +30,7 @@ use Rattle.allocation.specs.Held.{ShapeBut, Held, Ends}
 use Rattle.allocation.proofs.LastLaws.{slots-end}
 use Rattle.allocation.proofs.EndsLaws.{end-begins, end-file, end-more, next-place, last-place, last-start, last-count}
 use Rattle.allocation.proofs.PointerBytes.{word-kept, parent-kept, slots-kept, file-kept, kept-pointer, pointer-read, start-others, count-others, start-slot, count-slot}
-use Rattle.allocation.proofs.ChangeLaws.{Changed, Longer, Stays, stays-same, member-begins, member-word, ground-zone, ground-run, walk-stays, chain-stays, stay-R4, changed-R5, changed-R6, pointers-at, sectors-at, under-zone, changed-types, changed-R8, stay-R9}
+use Rattle.allocation.proofs.ChangeLaws.{Changed, Longer, Stays, stays-same, member-begins, member-word, ground-zone, ground-run, ground-header, walk-stays, chain-stays, stay-R4, changed-R5, changed-R6, pointers-at, sectors-at, under-zone, changed-types, changed-R8, stay-R9}
 
 -- slot j of file f's last table reads q, which lies over what it lay over before and the n sectors from a on
 module _ (v v' : View) (f at : ℕ) (q : Pointer) (c : Cursor) (w : Written v v' (c .table .0) at q) (few : v .indexes ≤ 4096)
@@ -114,13 +114,20 @@ module _ (v v' : View) (f at : ℕ) (q : Pointer) (c : Cursor) (w : Written v v'
   unused-from : (l : ℕ) → l < slotsOf i t → j < l → Used i t' l → ⊥
   unused-from l h g u = let ne : l ≢ j = λ q. omega arith in after l h g (rw (other-start l ne, other-count l ne) at u)
 
+  -- a parent's pointers stand behind its header pointer, and a child has none
+  same-header : (s : ℕ) → headerOver i t' s ≡ headerOver i t s
+  same-header s = elim (ℕ-discrete (wordOf t) i) [
+    | yes g ↦ header-over-kept i s kept (inl (omega (arith, base-parent i t g))) (word-kept i kept behind)
+    | no ne ↦ header-other i t' s (λ g. ne (sym (word-kept i kept behind) ∙ g)) ∙ sym (header-other i t s ne)
+  ]
+
   new-over : (s : ℕ) → claimsOf i t' s ≡ claimsOf i t s + cov a n s
   unfolding claimsOf overOf
   new-over s =
       let m = sum-at (slotsOf i t) j (λ l. cov (startOf i t' l) (countOf i t' l) s) (λ l. cov (startOf i t l) (countOf i t l) s) slot
       (λ l h ne. ap₂ (λ (x y : ℕ). cov x y s) (other-start l ne) (other-count l ne)) in
       let g : cov (startOf i t' j) (countOf i t' j) s ≡ cov (q .start .0) (q .count) s = ap₂ (λ (x y : ℕ). cov x y s) new-start new-count in
-      rw same-slots (omega (arith, lies s))
+      rw same-slots (omega (arith, lies s, same-header s))
 
   new-sectors : sectorsOf i t' ≡ sectorsOf i t + n
   unfolding sectorsOf
@@ -175,7 +182,7 @@ module _ (v v' : View) (f at : ℕ) (q : Pointer) (c : Cursor) (w : Written v v'
       | no ne ↦ rw (other-start l ne, other-count l ne) (ground-run v v' (w .ground) _ _ (o .used l (rw same-slots at h) (rw (other-start l ne, other-count l ne) at u)))
     ];
     one = λ g nf. used-to 0 (omega arith);
-    header = λ g. (let p : wordOf t ≡ i = sym (word-kept i kept behind) ∙ g in header-kept kept (inl (omega (arith, base-parent i t p))) (o .header p));
+    header = λ g. (let p : wordOf t ≡ i = sym (word-kept i kept behind) ∙ g in header-kept kept (inl (omega (arith, base-parent i t p))) (ground-header v v' (w .ground) t (o .header p)));
   }
 
   pub slot-held : (d d' : ℕ → ℕ) → ((s : ℕ) → cov a n s + d' s ≡ d s) → Held v f d → (k m : ℕ) → m ≡ suc j
@@ -214,7 +221,7 @@ module _ (v v' : View) (f at : ℕ) (q : Pointer) (c : Cursor) (w : Written v v'
       at-place : pointerPlace (c .tail .capacity) m ≡ at
       at-place = omega (arith, e .capacity, slots-end i t (λ z. i-begins .2 (sym (i-begins .1 .word) ∙ z)), base-low i t)
 
-      front : (o : ℕ) → o < 58 → getD (v' .table f) o 0 ≡ getD (v .table f) o 0
+      front : (o : ℕ) → o < 64 → getD (v' .table f) o 0 ≡ getD (v .table f) o 0
       front o l = elim (ℕ-discrete f i) [
         | yes g ↦ rw g (kept .out o (inl (omega (arith, base-parent i t (rw g at (e .parent .word))))))
         | no ne ↦ ap (λ (y : List ℕ). getD y o 0) (w .there f (e .parent .low) (e .parent .high) ne)

@@ -24,7 +24,7 @@ pub record ShapeBut (v : View) (f i : ℕ) (t : List ℕ) : Type 0 where
   pub first : (j : ℕ) → suc j < slotsOf i t → Used i t (suc j) → Used i t j
   pub used : (j : ℕ) → j < slotsOf i t → Used i t j → Run v (startOf i t j) (countOf i t j)
   pub one : wordOf t ≡ i → i ≢ f → Used i t 0
-  pub header : wordOf t ≡ i → HeaderLaw t
+  pub header : wordOf t ≡ i → HeaderLaw v t
 
 -- d counts what is set besides: what is taken and not yet under a pointer among it
 pub record Held (v : View) (f : ℕ) (d : ℕ → ℕ) : Type 0 where
@@ -51,8 +51,8 @@ pub record Ends (v : View) (f : ℕ) (c : Cursor) : Type 0 where
   pub pointer : 1 ≤ c .tail .slot → c .tail .last ≡ pointerAt (v .table (c .table .0)) (placeOf (c .tail))
   pub none : c .tail .slot ≡ 0 → (c .tail .last .start .0 + c .tail .last .count ≡ 0) × (long ≡ 0)
 
--- file f has n sectors more, of type t; its parent's first 58 bytes stay
+-- file f has n sectors more, of type t; its parent's first 64 bytes, what stands before the pointers, stay
 pub record Grown (v v' : View) (f n t : ℕ) : Type 0 where
   pub sectors : fileSectors v' f ≡ fileSectors v f + n
-  pub front : (o : ℕ) → o < 58 → getD (v' .table f) o 0 ≡ getD (v .table f) o 0
+  pub front : (o : ℕ) → o < 64 → getD (v' .table f) o 0 ≡ getD (v .table f) o 0
   pub types : InType v f t → InType v' f t

@@ -32,6 +32,6 @@ pub record Lengthened (extra : ℕ → ℕ) (p : Places) (f : ℕ) (g g' : Growt
   pub held : Held (viewOf p (g' .books)) f extra
   pub ends : Ends (viewOf p (g' .books)) f (g' .cursor)
   pub sectors : fileSectors (viewOf p (g' .books)) f ≡ fileSectors (viewOf p (g .books)) f + sectorsIn ts
-  pub front : (o : ℕ) → o < 58 → getD (viewOf p (g' .books) .table f) o 0 ≡ getD (viewOf p (g .books) .table f) o 0
+  pub front : (o : ℕ) → o < 64 → getD (viewOf p (g' .books) .table f) o 0 ≡ getD (viewOf p (g .books) .table f) o 0
   pub types : (t : ℕ) → AllOf ts t → InType (viewOf p (g .books)) f t → InType (viewOf p (g' .books)) f t
   pub quiet : Quiet p (g .books) (g' .books)

@@ -1,5 +1,6 @@
 pub mod Find
 pub mod Choice
+pub mod Headers
 pub mod NextPointer
 pub mod NewTables
 pub mod Growth

@@ -20,7 +20,7 @@ use Rattle.allocation.specs.Choice.{blockStart}
 use Rattle.allocation.specs.NewTables.{New}
 use Rattle.allocation.specs.Candidates.{Proper}
 
--- ---- a block
+-- ---- sectors taken
 
 -- block k of type t is free: in a zone of the type, or in one that is clear and so can be seen as one of the type
 pub record Choosable (v : View) (t : ℕ) (k : Found) : Type 0 where
@@ -29,12 +29,16 @@ pub record Choosable (v : View) (t : ℕ) (k : Found) : Type 0 where
   pub was : Blocks (v .bit) (firstOf (k .zone .0)) (blockOf t) (suc (k .free))
   pub kept : (v .zone (k .zone .0) .ztype ≡ t) ⊎ ZoneBits v (k .zone .0) 0
 
--- it is taken
-pub record Taken (v v' : View) (t : ℕ) (k : Found) : Type 0 where
+-- the n sectors from a on are set, and the entry of zone z, in which they lie, is (t, free, 0)
+pub record Filled (v v' : View) (z t free a n : ℕ) : Type 0 where
   pub zones : v' .zones ≡ v .zones
-  pub here : v' .zone (k .zone .0) ≡ record { ztype = t; free = k .free; third = 0 }
-  pub there : (z : ℕ) → 1 ≤ z → z ≤ v .zones → z ≢ k .zone .0 → v' .zone z ≡ v .zone z
-  pub bit : (s : ℕ) → s < 1024 * v .zones → v' .bit s ≡ v .bit s + cov (blockStart t k) (blockOf t) s
+  pub here : v' .zone z ≡ record { ztype = t; free = free; third = 0 }
+  pub there : (y : ℕ) → 1 ≤ y → y ≤ v .zones → y ≢ z → v' .zone y ≡ v .zone y
+  pub bit : (s : ℕ) → s < 1024 * v .zones → v' .bit s ≡ v .bit s + cov a n s
+
+-- the block is taken
+abbrev pub Taken : View → View → ℕ → Found → Type 0
+Taken v v' t k = Filled v v' (k .zone .0) t (k .free) (blockStart t k) (blockOf t)
 
 -- ---- index tables
 

@@ -53,7 +53,7 @@ fn begun_from(b: &[u8], p: Places, t: u32, from: Zone) -> Zone
 }
 
 // The lowest open zone, Z where there is none.
-fn lowest_open(b: &[u8], p: Places) -> Zone
+pub fn lowest_open(b: &[u8], p: Places) -> Zone
     requires { ⌜ Layout p (length (now b)) ⌝ }
     ensures { λ r. ⌜ r .0 ≡ lowestOpen (viewOf p (now (b .entry))) ⌝ }
 {

@@ -2,6 +2,7 @@
 pub mod choice;
 pub mod file;
 pub mod growth;
+pub mod header;
 pub mod last;
 pub mod plan;
 pub mod size;

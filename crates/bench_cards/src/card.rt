@@ -108,23 +108,23 @@ pub fn grow_to(step: &[u8], card: [u8; 5120], id: u32, long: i32) -> [u8; 5120] 
     after
 }
 
-pub fn remove(step: &[u8], card: [u8; 5120], id: u32) -> [u8; 5120] {
+pub fn remove(step: &[u8], card: [u8; 5120], body: &mut [u8], id: u32) -> [u8; 5120] {
     let mut after = card;
-    let number = temporary_delete(&mut after, id, b"\x07\xea\x01\x02\x03\x07");
+    let number = temporary_delete(&mut after, body, id, b"\x07\xea\x01\x02\x03\x07");
     say_state(step, number, id, &card, &after);
     after
 }
 
-pub fn restore(step: &[u8], card: [u8; 5120], id: u32) -> [u8; 5120] {
+pub fn restore(step: &[u8], card: [u8; 5120], body: &mut [u8], id: u32) -> [u8; 5120] {
     let mut after = card;
-    let number = recover(&mut after, id, b"\x07\xea\x01\x02\x03\x08");
+    let number = recover(&mut after, body, id, b"\x07\xea\x01\x02\x03\x08");
     say_state(step, number, id, &card, &after);
     after
 }
 
-pub fn delete(step: &[u8], card: [u8; 5120], id: u32) -> [u8; 5120] {
+pub fn delete(step: &[u8], card: [u8; 5120], body: &mut [u8], id: u32) -> [u8; 5120] {
     let mut after = card;
-    let number = actual_delete(&mut after, id, b"\x07\xea\x01\x02\x03\x09");
+    let number = actual_delete(&mut after, body, id, b"\x07\xea\x01\x02\x03\x09");
     say_state(step, number, id, &card, &after);
     after
 }

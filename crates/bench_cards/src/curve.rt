@@ -82,23 +82,22 @@ pub fn show_at(books: &[u8], body: &[u8], k: u32) {
     say(b"\n");
 }
 
-pub fn mark(books: &mut [u8]) {
+pub fn mark(books: &mut [u8], body: &mut [u8], id: u32) {
     let date = b"\x07\xea\x01\x02\x03\x0c";
-    say_number(
-        b"temporary delete number=",
-        temporary_delete(books, 1, date),
-    );
+    let number = temporary_delete(books, body, id, date);
+    say_number(b"temporary delete number=", number);
     say(b"\n");
 }
 
-pub fn take_back(books: &mut [u8]) {
+pub fn take_back(books: &mut [u8], body: &mut [u8], id: u32) {
     let date = b"\x07\xea\x01\x02\x03\x0d";
-    say_number(b"recover number=", recover(books, 1, date));
+    say_number(b"recover number=", recover(books, body, id, date));
     say(b"\n");
 }
 
-pub fn give_back(books: &mut [u8]) {
+pub fn give_back(books: &mut [u8], body: &mut [u8], id: u32) {
     let date = b"\x07\xea\x01\x02\x03\x0e";
-    say_number(b"actual delete number=", actual_delete(books, 1, date));
+    let number = actual_delete(books, body, id, date);
+    say_number(b"actual delete number=", number);
     say(b"\n");
 }

@@ -20,7 +20,7 @@ pub fn say_pair(a: u32, c: u32) {
 }
 
 // The number of two bytes, 0 outside the slice.
-fn half(s: &[u8], at: usize) -> u32 {
+pub fn half(s: &[u8], at: usize) -> u32 {
     if s.len() < 2 {
         return 0;
     }
@@ -99,8 +99,20 @@ fn say_parent(b: &[u8], id: u32) {
     }
 }
 
+// Where the header of file id lies, if it has one.
+pub fn say_header(b: &[u8], id: u32) {
+    let at = place(b.len(), id);
+    if at <= b.len() {
+        let parent = &b[at..];
+        if half(parent, 62) > 0 {
+            say(b" header=");
+            say_pointer(parent, 58);
+        }
+    }
+}
+
 // Type and free count of zone 2, and of zone 3 if it isn't the last.
-fn say_zones(b: &[u8]) {
+pub fn say_zones(b: &[u8]) {
     say(b" zones=");
     say_pair(half(b, 2054), half(b, 2056));
     if word(b, 130) > 3 {

@@ -1,6 +1,7 @@
 // The bench cards on books in memory, a line for each step.
 mod card;
 mod curve;
+mod header;
 mod line;
 
 use crate::card::create;
@@ -27,6 +28,9 @@ use crate::curve::read_at;
 use crate::curve::show_at;
 use crate::curve::take_back;
 use crate::curve::write_at;
+use crate::header::header_day;
+ghost use mathlib.Core.Path.{_≡_};
+ghost use lib.ListN.{length};
 
 // Counts per zone type, on fresh cards with open zones enough; P3 follows P2 on its card.
 fn counts_cards() {
@@ -101,13 +105,18 @@ fn free_zone_given() {
     space(&given);
 }
 
+// Temporary, then actual delete.
+fn delete_both(card: [u8; 5120], body: &mut [u8], id: u32) -> [u8; 5120] {
+    let marked = remove(b"temporary delete", card, body, id);
+    delete(b"actual delete", marked, body, id)
+}
+
 // Freed blocks are used again, the lowest first.
-fn freed_used_again() {
+fn freed_used_again(body: &mut [u8]) {
     let fresh = mounted(formatted(3, 8));
     let one = create(b"three blocks", fresh, b"one", 3000, 4);
     let two = create(b"one block", one, b"two", 1000, 4);
-    let marked = remove(b"temporary delete", two, 1);
-    let freed = delete(b"actual delete", marked, 1);
+    let freed = delete_both(two, body, 1);
     space(&freed);
     let again = create(b"five blocks", freed, b"again", 5000, 4);
     space(&again);
@@ -148,7 +157,7 @@ fn apart(card: [u8; 5120]) -> [u8; 5120] {
 }
 
 // Clear blocks between set ones are given first; the parent holds ten pointers, a child the next.
-fn eleven_pointers() {
+fn eleven_pointers(body: &mut [u8]) {
     let fresh = mounted(formatted(3, 8));
     let one = create(b"ten blocks", fresh, b"one", 10240, 4);
     let moved = apart(one);
@@ -156,9 +165,14 @@ fn eleven_pointers() {
     let two = create(b"twelve blocks", moved, b"two", 12288, 4);
     space(&two);
     // both its tables go before the old free chain, in order
-    let marked = remove(b"temporary delete", two, 2);
-    let freed = delete(b"actual delete", marked, 2);
+    let freed = delete_both(two, body, 2);
     space(&freed);
+}
+
+// The cards of three zones whose blocks are freed.
+fn giving_back(body: &mut [u8]) {
+    freed_used_again(body);
+    eleven_pointers(body);
 }
 
 // Grow of a variable file with blocks of type D.
@@ -196,28 +210,48 @@ fn asked(card: &[u8]) {
     show_nothing(card, 1);
 }
 
-// A day at the bench, as far as the books tell it: a curve is made, deleted, recovered; another takes no part of it; at last both are given back.
-fn day() {
+// A day at the bench, as far as the books tell it. Each part of the day ends with the next: a curve is made and deleted,
+fn day(body: &mut [u8]) {
     let fresh = mounted(formatted(4, 8));
     let curve = create(b"curve", fresh, b"CURVE 60A", 5000, 0);
-    let active = delete(b"actual delete of an active file", curve, 1);
-    let marked = remove(b"temporary delete", active, 1);
-    let twice = remove(b"temporary delete again", marked, 1);
+    let active = delete(b"actual delete of an active file", curve, body, 1);
+    let marked = remove(b"temporary delete", active, body, 1);
+    let twice = remove(b"temporary delete again", marked, body, 1);
+    day_recovered(twice, body);
+}
+
+// recovered, when another has taken no part of it,
+fn day_recovered(card: [u8; 5120], body: &mut [u8]) {
     // the deleted file keeps its id and its blocks, so that it can be recovered
-    let other = create(b"another curve", twice, b"CURVE 100A", 5000, 0);
-    let back = restore(b"recover", other, 1);
-    let same = restore(b"recover again", back, 1);
+    let other = create(b"another curve", card, b"CURVE 100A", 5000, 0);
+    let back = restore(b"recover", other, body, 1);
+    let same = restore(b"recover again", back, body, 1);
     asked(&same);
-    let shut = protect(b"protect 4", same, 2, 4);
-    let kept = remove(b"temporary delete of a protected file", shut, 2);
+    day_protected(same, body);
+}
+
+// the other is protected for a while,
+fn day_protected(card: [u8; 5120], body: &mut [u8]) {
+    let shut = protect(b"protect 4", card, 2, 4);
+    let kept = remove(b"temporary delete of a protected file", shut, body, 2);
     let odd = protect(b"protect 5", kept, 2, 5);
     let free = protect(b"protect 0", odd, 2, 0);
-    let gone = delete(b"actual delete", remove(b"temporary delete", free, 1), 1);
-    let none = restore(b"recover of no file", gone, 1);
+    day_reused(free, body);
+}
+
+// what the first had is used again,
+fn day_reused(card: [u8; 5120], body: &mut [u8]) {
+    let gone = delete_both(card, body, 1);
+    let none = restore(b"recover of no file", gone, body, 1);
     // its index table and its blocks are the first to be had again
     let again = create(b"reuse", none, b"CURVE 25A", 5000, 0);
-    let first = delete(b"actual delete", remove(b"temporary delete", again, 2), 2);
-    let empty = delete(b"actual delete", remove(b"temporary delete", first, 1), 1);
+    day_given_back(again, body);
+}
+
+// and at last both are given back.
+fn day_given_back(card: [u8; 5120], body: &mut [u8]) {
+    let first = delete_both(card, body, 2);
+    let empty = delete_both(first, body, 1);
     let whole = create(b"H", empty, b"file", 1, 128);
     space(&whole);
 }
@@ -266,6 +300,7 @@ fn afternoon(books: &mut [u8], body: &mut [u8]) {
 // deleted and given back, and its sectors are used again.
 fn evening(books: &mut [u8], body: &mut [u8]) {
     leave(books, body);
+    lose(books, body);
     reuse(books, body);
 }
 
@@ -279,14 +314,18 @@ fn look(books: &[u8], body: &[u8]) {
     read_at(b"read without a body", books, b"", 0, 1024, false);
 }
 
-// The curve is deleted, recovered with its bytes, and given back.
-fn leave(books: &mut [u8], body: &[u8]) {
-    mark(books);
+// The curve is deleted, and recovered with its bytes.
+fn leave(books: &mut [u8], body: &mut [u8]) {
+    mark(books, body, 1);
     read_at(b"read deleted", books, body, 0, 5120, false);
-    take_back(books);
+    take_back(books, body, 1);
     read_at(b"read recovered", books, body, 0, 5120, false);
-    mark(books);
-    give_back(books);
+}
+
+// The curve is given back.
+fn lose(books: &mut [u8], body: &mut [u8]) {
+    mark(books, body, 1);
+    give_back(books, body, 1);
     read_at(b"read given back", books, body, 0, 5120, false);
 }
 
@@ -298,15 +337,27 @@ fn reuse(books: &mut [u8], body: &mut [u8]) {
     read_at(b"read reused", books, body, 0, 5120, false);
 }
 
-fn day_with(body: &mut [u8]) {
+fn day_moving(body: &mut [u8]) {
     let mut books = mounted(formatted(3, 8));
     make(b"curve", &mut books, b"CURVE 60A");
     morning(&mut books, body);
 }
 
-fn day_moving() {
-    let mut body = [0u8; 1048576];
-    day_with(&mut body);
+// The cards whose requests take the body: half of that of four zones is that of three.
+fn cards_on(body: &mut [u8])
+    requires { ⌜ length (now body) ≡ 2097152 ⌝ }
+{
+    giving_back(&mut body[0..1048576]);
+    growing();
+    day(body);
+    day_moving(&mut body[0..1048576]);
+    header_day(body);
+}
+
+// The body is made once, for a card of four zones.
+fn cards_with_body() {
+    let mut body = [0u8; 2097152];
+    cards_on(&mut body);
 }
 
 fn main() {
@@ -316,9 +367,5 @@ fn main() {
     many_zones();
     refusals();
     free_zone_given();
-    freed_used_again();
-    eleven_pointers();
-    growing();
-    day();
-    day_moving();
+    cards_with_body();
 }

@@ -16,7 +16,7 @@ use Rattle.examination.specs.declared.fault.Fault.{Fault}
 use Rattle.examination.specs.declared.fault.Fault.the-variants.{Nothing, AtZone, AtSector, AtIndex, AtCount}
 use Rattle.examination.specs.Examined.{PlacedAt}
 use Rattle.examination.specs.Rulings.{FreeChained, countKind, speaks, zoneRulings, indexRulings, fileRulings, rulings, Broken, Lower}
-use Rattle.examination.specs.Faults.{ruleOf, placeKindOf, placeOf, NamesFault, isFault, countFault}
+use Rattle.examination.specs.Faults.{ruleOf, placeKindOf, faultPlace, NamesFault, isFault, countFault}
 use Rattle.examination.proofs.TailLaws.{tails-each, each-tails}
 use Rattle.examination.proofs.ChainedLaws.{R5-each, each-R5}
 use Rattle.examination.proofs.SectorLaws.{R7-each, each-R7}
@@ -85,12 +85,12 @@ module _ (p : Places) (b : List ℕ) where
 
   module _ (f : Fault) (h : NamesFault (rulings p b) f) where
     -- "it fails there"
-    pub broken-there : f ≢ Nothing → Broken p b (ruleOf f) (placeKindOf f) (placeOf f)
-    broken-there ne = named-fails (rulings p b) (ruleOf f) (placeKindOf f) (placeOf f) h (fault-some f ne)
+    pub broken-there : f ≢ Nothing → Broken p b (ruleOf f) (placeKindOf f) (faultPlace f)
+    broken-there ne = named-fails (rulings p b) (ruleOf f) (placeKindOf f) (faultPlace f) h (fault-some f ne)
 
     -- "nothing lower fails"
-    pub broken-lowest : f ≢ Nothing → (rule kind place : ℕ) → Broken p b rule kind place → Lower rule kind place (ruleOf f) (placeKindOf f) (placeOf f) → ⊥
-    broken-lowest ne rule kind place = nothing-lower (rulings p b) ascending (ruleOf f) (placeKindOf f) (placeOf f) h (fault-some f ne) rule kind place
+    pub broken-lowest : f ≢ Nothing → (rule kind place : ℕ) → Broken p b rule kind place → Lower rule kind place (ruleOf f) (placeKindOf f) (faultPlace f) → ⊥
+    broken-lowest ne rule kind place = nothing-lower (rulings p b) ascending (ruleOf f) (placeKindOf f) (faultPlace f) h (fault-some f ne) rule kind place
 
   -- ---- the rules hold exactly when none fails
 
@@ -119,17 +119,17 @@ module _ (p : Places) (b : List ℕ) where
     module _ (f : Fault) (h : NamesFault (rulings p b) f) where
       -- "nothing is found exactly when" all rules hold
       pub nothing-lawful : f ≡ Nothing → Lawful p b
-      nothing-lawful e = hold-lawful (names-hold (rulings p b) kinds (ruleOf f) (placeKindOf f) (placeOf f) h (ap placeKindOf e))
+      nothing-lawful e = hold-lawful (names-hold (rulings p b) kinds (ruleOf f) (placeKindOf f) (faultPlace f) h (ap placeKindOf e))
 
       pub lawful-nothing : Lawful p b → f ≡ Nothing
-      lawful-nothing l = kind-none f (hold-none (rulings p b) (lawful-hold l) (ruleOf f) (placeKindOf f) (placeOf f) h)
+      lawful-nothing l = kind-none f (hold-none (rulings p b) (lawful-hold l) (ruleOf f) (placeKindOf f) (faultPlace f) h)
 
       -- books of which no rule fails at any place are lawful, and the other way round
       pub nowhere-lawful : ((rule kind place : ℕ) → Broken p b rule kind place → ⊥) → Lawful p b
       nowhere-lawful none =
           nothing-lawful (elim (ℕ-discrete (placeKindOf f) 0) [
             | yes e ↦ kind-none f e
-            | no ne ↦ absurd (none (ruleOf f) (placeKindOf f) (placeOf f) (named-fails (rulings p b) (ruleOf f) (placeKindOf f) (placeOf f) h (omega arith)))
+            | no ne ↦ absurd (none (ruleOf f) (placeKindOf f) (faultPlace f) (named-fails (rulings p b) (ruleOf f) (placeKindOf f) (faultPlace f) h (omega arith)))
           ])
 
     pub lawful-nowhere : Lawful p b → (rule kind place : ℕ) → Broken p b rule kind place → ⊥

@@ -20,16 +20,16 @@ use Rattle.field.proofs.BitLaws.{bitAt-lt}
 use Rattle.tables.specs.declared.index.Pointer.{Pointer}
 use Rattle.tables.specs.declared.places.Places.{Places}
 use Rattle.tables.specs.Places.{Layout}
-use Rattle.tables.specs.Indexes.{pointerAt, slotsOf, baseOf}
-use Rattle.tables.specs.Views.{View, viewOf, cov, claimsOf, overOf, tally, claimsOver}
+use Rattle.tables.specs.Indexes.{wordOf, pointerAt, slotsOf, baseOf, headerStart, headerCount}
+use Rattle.tables.specs.Views.{View, viewOf, cov, overOf, headerOver, claimsOf, tally, claimsOver}
 use Rattle.tables.specs.Each.{Each}
 use Rattle.tables.specs.Rules.R6.{R6}
 use Rattle.tables.specs.Rules.R7.{Owned}
-use Rattle.tables.proofs.PointerLaws.{cov-in, cov-before, cov-after, cov-cases, cov-join, claimed-under}
+use Rattle.tables.proofs.PointerLaws.{cov-in, cov-before, cov-after, cov-cases, cov-join, header-over, header-other, claimed-inside}
 use Rattle.examination.specs.declared.finding.Finding.{Finding}
 use Rattle.examination.specs.declared.finding.Finding.the-variants.{Holds, Fails}
 use Rattle.examination.specs.Findings.{Finds, Seeks}
-use Rattle.examination.specs.Marks.{markAt, MarksAdded, Adds, overFirst, overTables}
+use Rattle.examination.specs.Marks.{markAt, MarksAdded, Adds, overFirst, overTables, TableFits}
 use Rattle.examination.specs.Rulings.{SectorLaw}
 use Rattle.examination.specs.Limits.{Limited, Lowers, NoMarks}
 use Rattle.examination.proofs.SectorLaws.{R7-each, each-R7}
@@ -97,9 +97,36 @@ module _ (t : List ℕ) (base : ℕ) (m₀ : List ℕ) (limit : ℕ) where
     pointers-more q m' low' e d =
         lowers-more (overFirst t base (j + 1)) a (rw e at d) (λ s. sum-more j (λ j. cov (u32At t (base + 6 * j)) (u16At t (base + 6 * j + 4)) s))
 
-    pub pointers-end : (i slots : ℕ) → base ≡ baseOf i t → slots ≡ slotsOf i t → j ≤ slots → slots ≤ j → Lowers m₀ limit (claimsOf i t) m low
-    unfolding overFirst claimsOf overOf
+    pub pointers-end : (i slots : ℕ) → base ≡ baseOf i t → slots ≡ slotsOf i t → j ≤ slots → slots ≤ j → Lowers m₀ limit (overOf i t) m low
+    unfolding overFirst overOf
     pointers-end i slots eb es h l = let e : j ≡ slotsOf i t = omega arith in rw (e, eb) at a
+
+-- ---- its header, after its pointers
+
+-- a table that is no parent has none; a parent's is a run like another
+module _ (i : ℕ) (t : List ℕ) (w : ℕ) (ew : w ≡ wordOf t) (m : List ℕ) (limit : ℕ) where
+  pub header-past : length m ≡ 4096 → (w ≡ i → ⊥) → Lowers m limit (headerOver i t) m limit
+  header-past l ne = lowers-none m limit (headerOver i t) l (λ s. header-other i t s (λ e. ne (ew ∙ e)))
+
+  pub header-lowers : (m' : List ℕ) (low : ℕ) (q : Pointer) → w ≡ i → q ≡ pointerAt t 58 → Lowers m limit (cov (q .start .0) (q .count)) m' low → Lowers m limit (headerOver i t) m' low
+  header-lowers m' low q e at a =
+      let x : Lowers m limit (cov (headerStart t) (headerCount t)) m' low = rw at at a in
+      let same : (s : ℕ) → headerOver i t s ≡ cov (headerStart t) (headerCount t) s = λ s. header-over i t s (sym ew ∙ e) in
+      record {
+        long = x .long;
+        lower = x .lower;
+        bits = λ s h. omega (arith, x .bits s h, same s);
+        twice = ⊎-elim (λ h. inl h) (λ h. inr (omega (arith, same low))) (x .twice);
+      }
+
+-- the two steps
+module _ (i : ℕ) (t m m' : List ℕ) (limit low : ℕ) (a : Lowers m limit (overOf i t) m' low) where
+  pub fits-after : TableFits i t (length m) → TableFits i t (length m')
+  fits-after f = (let e : length m' ≡ length m = a .long ∙ sym (f .long) in rw e f)
+
+  pub claims-lower : (m'' : List ℕ) (low' : ℕ) → Lowers m' low (headerOver i t) m'' low' → Lowers m limit (claimsOf i t) m'' low'
+  unfolding claimsOf
+  claims-lower m'' low' d = lowers-more (claimsOf i t) a d (λ s. refl)
 
 -- ---- all tables
 
@@ -150,18 +177,15 @@ module _ (p : Places) (b m : List ℕ) (limit : ℕ) (a : Limited m limit (claim
   law-same : (s : ℕ) → s < limit → SectorLaw (viewOf p b) s → bitAt b (p .sectortable) s ≡ markAt m s
   law-same s l e = omega (arith, a .bits s l)
 
-  -- a sector under two pointers breaks it
+  -- a sector that is owned twice breaks it
   law-once : (s : ℕ) → SectorLaw (viewOf p b) s → claimsOver (viewOf p b) s < 2
   law-once s e = omega (arith, bitAt-lt b (p .sectortable) s)
 
-  -- no pointer lies over zone 1
+  -- nothing in zone 1 is owned
   limit-low : Layout p (length b) → R6 (viewOf p b) → 1024 ≤ limit
   limit-low lay r6 = elim (decLt limit 1024) [
     | yes l ↦ ⊎-elim (λ e. omega (arith, lay .least)) (λ two.
-        (let u = claimed-under (viewOf p b) limit (omega arith) in
-        let w = u .2 in
-        let run = r6 (u .0) (omega (arith, w .high)) (w .low) .used (u .1) (w .slot) (omega (arith, w .from, w .to)) in
-        absurd (omega (arith, run .low, w .from)))) (a .twice)
+        absurd (omega (arith, claimed-inside (viewOf p b) r6 limit (omega arith) .0))) (a .twice)
     | no l ↦ omega arith
   ]
 

@@ -19,14 +19,14 @@ use Rattle.field.proofs.BitLaws.{bit-lt, bitAt-lt}
 use Rattle.tables.specs.declared.index.Pointer.{Pointer}
 use Rattle.tables.specs.declared.places.Places.{Places}
 use Rattle.tables.specs.Places.{Layout}
-use Rattle.tables.specs.Indexes.{tableAt, pointerAt, slotsOf, baseOf, startOf, countOf, Used}
-use Rattle.tables.specs.Views.{View, viewOf, cov, claimsOf, overOf, tally, claimsOver}
+use Rattle.tables.specs.Indexes.{tableAt, wordOf, pointerAt, slotsOf, baseOf, startOf, countOf, Used, headerStart, headerCount}
+use Rattle.tables.specs.Views.{View, viewOf, cov, overOf, headerOver, claimsOf, tally, claimsOver}
 use Rattle.tables.specs.Rules.R6.{R6, Shape}
 use Rattle.tables.specs.Rules.R7.{Owned, R7}
 use Rattle.examination.specs.Marks.{Piece, markAt, wordAt, MarksAdded, Adds, overFirst, overTables, TableFits, Agrees}
 use Rattle.tables.proofs.IndexLaws.{length-table}
 use Rattle.examination.proofs.PieceLaws.{bit-low, bit-high, word-same}
-use Rattle.tables.proofs.PointerLaws.{cov-before, cov-after, cov-none, cov-join}
+use Rattle.tables.proofs.PointerLaws.{cov-none, cov-join, header-over, header-other, claimed-inside}
 
 -- ---- what was marked, on each way on from it
 
@@ -91,15 +91,15 @@ module _ (t : List ℕ) (m₀ m : List ℕ) (base j : ℕ) (a : MarksAdded m₀ 
         record { len = x .len ∙ a .len; bits = λ n. omega (arith, x .bits n, a .bits n, sum-more j (λ j. cov (u32At t (base + 6 * j)) (u16At t (base + 6 * j + 4)) n)) }
 
     module _ (i slots : ℕ) (eb : base ≡ baseOf i t) (es : slots ≡ slotsOf i t) (l : j < slots) where
-      pub first-stop : (r : Bool) (m' : List ℕ) → Adds r m m' (cov (q .start .0) (q .count)) → not r ≡ true → Adds false m₀ m' (claimsOf i t)
-      unfolding overFirst claimsOf overOf
+      pub first-stop : (r : Bool) (m' : List ℕ) → Adds r m m' (cov (q .start .0) (q .count)) → not r ≡ true → Adds false m₀ m' (overOf i t)
+      unfolding overFirst overOf
       first-stop r m' d e h =
           adds-false r m m' _ d e
           (λ n. rw (start-is, count-is) (omega (arith, rw (← eb, ← es) at (h n), a .bits n, sum-upto slots j (λ j. cov (u32At t (base + 6 * j)) (u16At t (base + 6 * j + 4)) n) l)))
 
       -- at a pointer with no sectors there are no more marks to add
-      pub first-rest : TableFits i t (length m₀) → q .count ≡ 0 → Adds true m₀ m (claimsOf i t)
-      unfolding overFirst claimsOf overOf
+      pub first-rest : TableFits i t (length m₀) → q .count ≡ 0 → Adds true m₀ m (overOf i t)
+      unfolding overFirst overOf
       first-rest f z = record {
         len = a .len;
         bits = λ n. rw (← eb, ← es) (omega (arith, a .bits n, cut n, sum-cut j (slots - j) (over n), none n));
@@ -114,22 +114,58 @@ module _ (t : List ℕ) (m₀ m : List ℕ) (base j : ℕ) (a : MarksAdded m₀ 
           none : (n : ℕ) → sumTo (slots - j) (λ k. over n (j + k)) ≡ 0
           none n = sum-zero (slots - j) _ (λ k lk. rw (rw (← eb) at (f .rest j (rw (← eb) (sym count-is ∙ z)) (j + k) (omega arith) (omega arith))) (cov-none _ n))
 
-  pub first-end : (i slots : ℕ) → base ≡ baseOf i t → slots ≡ slotsOf i t → j ≤ slots → slots ≤ j → Adds true m₀ m (claimsOf i t)
-  unfolding overFirst claimsOf overOf
+  pub first-end : (i slots : ℕ) → base ≡ baseOf i t → slots ≡ slotsOf i t → j ≤ slots → slots ≤ j → Adds true m₀ m (overOf i t)
+  unfolding overFirst overOf
   first-end i slots eb es h l = let e : j ≡ slotsOf i t = omega arith in rw (e, eb) at a
 
--- ---- R6 gives that the pointers of a table fit, and that none lies over zone 1 or Z
+-- ---- a table's header, after its pointers
+
+-- a parent's header ends within the marks; another table has none
+module _ (i : ℕ) (t : List ℕ) (w : ℕ) (ew : w ≡ wordOf t) where
+  pub header-room : (len : ℕ) (q : Pointer) → TableFits i t len → w ≡ i → q ≡ pointerAt t 58 → q .start .0 + q .count ≤ 262144
+  header-room len q f e at = rw at (f .header (sym ew ∙ e))
+
+  pub header-skip : (m : List ℕ) → (w ≡ i → ⊥) → Adds true m m (headerOver i t)
+  header-skip m ne = record { len = refl; bits = λ n. omega (arith, header-other i t n (λ e. ne (ew ∙ e))) }
+
+  pub header-adds : (r : Bool) (m m' : List ℕ) (q : Pointer) → w ≡ i → q ≡ pointerAt t 58 → Adds r m m' (cov (q .start .0) (q .count)) → Adds r m m' (headerOver i t)
+  header-adds r m m' q e at a = go r (rw at at a)
+    where
+      same : (n : ℕ) → headerOver i t n ≡ cov (headerStart t) (headerCount t) n
+      same n = header-over i t n (sym ew ∙ e)
+
+      go : (r : Bool) → Adds r m m' (cov (headerStart t) (headerCount t)) → Adds r m m' (headerOver i t)
+      go true x = record { len = x .len; bits = λ n. omega (arith, x .bits n, same n) }
+      go false x = λ h. x (λ n. omega (arith, h n, same n))
+
+-- the two steps
+module _ (i : ℕ) (t m₀ m : List ℕ) (r : Bool) (a : Adds r m₀ m (overOf i t)) where
+  pub claims-stop : not r ≡ true → Adds false m₀ m (claimsOf i t)
+  unfolding claimsOf
+  claims-stop e h = adds-false r m₀ m _ a e (λ n. omega (arith, h n))
+
+  pub fits-still : not r ≡ false → TableFits i t (length m₀) → TableFits i t (length m)
+  fits-still e f = rw (adds-true r m₀ m _ a e .len) f
+
+  pub claims-more : not r ≡ false → (s : Bool) (m' : List ℕ) → Adds s m m' (headerOver i t) → Adds s m₀ m' (claimsOf i t)
+  unfolding claimsOf
+  claims-more e = go
+    where
+      x : MarksAdded m₀ m (overOf i t)
+      x = adds-true r m₀ m _ a e
+
+      go : (s : Bool) (m' : List ℕ) → Adds s m m' (headerOver i t) → Adds s m₀ m' (claimsOf i t)
+      go true m' d = record { len = d .len ∙ x .len; bits = λ n. omega (arith, d .bits n, x .bits n) }
+      go false m' d = λ h. d (λ n. omega (arith, h n, x .bits n))
+
+-- ---- R6 gives that what a table owns fits, and that none of it lies in zone 1 or Z
 
 module _ (v : View) (i : ℕ) (shape : Shape v i (v .table i)) where
-  over-outside : (n : ℕ) → (n < 1024) ⊎ (1024 * (v .zones - 1) ≤ n) → claimsOf i (v .table i) n ≡ 0
-  unfolding claimsOf overOf
-  over-outside n d = sum-zero (slotsOf i (v .table i)) _ (λ j l. elim (decLt 0 (countOf i (v .table i) j)) [
-    | yes u ↦ (let r = shape .used j l (omega arith) in ⊎-elim (λ h. cov-before _ _ n (omega (arith, r .low))) (λ h. cov-after _ _ n (omega (arith, r .high))) d)
-    | no u ↦ (let e : countOf i (v .table i) j ≡ 0 = omega arith in rw e (cov-none _ n))
-  ])
-
   fit : v .zones ≤ 256 → (j : ℕ) → j < slotsOf i (v .table i) → startOf i (v .table i) j + countOf i (v .table i) j ≤ 262144
   fit z j l = elim (decLt 0 (startOf i (v .table i) j + countOf i (v .table i) j)) [ yes u ↦ omega (arith, shape .used j l u .high) | no u ↦ omega arith ]
+
+  header-fit : v .zones ≤ 256 → wordOf (v .table i) ≡ i → headerStart (v .table i) + headerCount (v .table i) ≤ 262144
+  header-fit z e = elim (decLt 0 (headerStart (v .table i) + headerCount (v .table i))) [ yes u ↦ omega (arith, shape .header e .run u .high) | no u ↦ omega arith ]
 
   -- after an unused pointer all are unused
   unused : (j : ℕ) → countOf i (v .table i) j ≡ 0 → (k : ℕ) → j + k < slotsOf i (v .table i) → Used i (v .table i) (j + k) → ⊥
@@ -153,11 +189,14 @@ module _ (p : Places) (b : List ℕ) (lay : Layout p (length b)) (r6 : R6 (viewO
         long = el;
         fit = fit (viewOf p b) i shape (lay .most);
         rest = rest (viewOf p b) i shape;
+        header = header-fit (viewOf p b) i shape (lay .most);
       })
 
   outside : (n : ℕ) → (n < 1024) ⊎ (1024 * (p .zones - 1) ≤ n) → claimsOver (viewOf p b) n ≡ 0
-  unfolding claimsOver tally
-  outside n d = sum-zero (p .indexes) _ (λ k l. over-outside (viewOf p b) (k + 1) (r6 (k + 1) (omega arith) (omega arith)) n d)
+  outside n d = elim (decLt 0 (claimsOver (viewOf p b) n)) [
+    | yes h ↦ (let x = claimed-inside (viewOf p b) r6 n h in ⊎-elim (λ l. absurd (omega (arith, x .0))) (λ l. absurd (omega (arith, x .1))) d)
+    | no h ↦ omega arith
+  ]
 
   -- ---- the rule, from the marks
 

@@ -25,7 +25,7 @@ use Rattle.tables.proofs.KindLaws.{parent-word, not-parent, child-word, not-chi
 use Rattle.tables.proofs.ChainLaws.{walk-add}
 use Rattle.examination.specs.Met.{SomeUsed}
 use Rattle.examination.specs.Chained.{StandsAt, ChildLaw, LinkLaw, ChainLaw}
-use Rattle.examination.specs.Meetings.{twice, afterMeeting, MetOnce, MetTwice, Noted, MetUpTo, Within, MetWithin}
+use Rattle.examination.specs.Meetings.{twice, afterMeeting, MetOnce, MetTwice, Noted, MetUpTo, PassedPairs, MetWithin}
 use Rattle.examination.proofs.MetLaws.{up}
 
 -- ---- a table by its entry
@@ -110,21 +110,21 @@ noted-none v = record {
 
 -- `at`, the m-th child after parent `of`, is met
 module _ (v : View) (met : List ℕ) (of m at : ℕ) (n : MetWithin v met of m) (s : StandsAt v of m at) (few : v .indexes ≤ 4096) (small : at < 4097) where
-  more : (p k : ℕ) → Within of m p k → Within of (suc m) p k
+  more : (p k : ℕ) → PassedPairs of m p k → PassedPairs of (suc m) p k
   more p k i = ⊎-elim (λ l. inl l) (λ e. inr (e .0, omega (arith, e .1))) i
 
-  cut : (p k : ℕ) → Within of (suc m) p k → (Within of m p k) ⊎ ((p ≡ of) × (k ≡ m))
+  cut : (p k : ℕ) → PassedPairs of (suc m) p k → (PassedPairs of m p k) ⊎ ((p ≡ of) × (k ≡ m))
   cut p k i =
       ⊎-elim (λ l. inl (inl l)) (λ e. elim (decLt k m) [ yes l ↦ inl (inr (e .0, l)) | no h ↦ inr (e .0, omega (arith, e .1)) ]) i
 
-  new : Within of (suc m) of m
+  new : PassedPairs of (suc m) of m
   new = inr (refl, omega arith)
 
-  not-yet : (p k : ℕ) → Within of m p k → (p ≡ of) × (k ≡ m) → ⊥
+  not-yet : (p k : ℕ) → PassedPairs of m p k → (p ≡ of) × (k ≡ m) → ⊥
   not-yet p k i e = ⊎-elim (λ l. omega (arith, e .0)) (λ h. omega (arith, h .1, e .1)) i
 
   -- the new pair stands nowhere else
-  other : (c : ℕ) → c ≢ at → (p k : ℕ) → Within of (suc m) p k → StandsAt v p k c → Within of m p k
+  other : (c : ℕ) → c ≢ at → (p k : ℕ) → PassedPairs of (suc m) p k → StandsAt v p k c → PassedPairs of m p k
   other c ne p k i q =
       ⊎-elim (λ o. o) (λ e. absurd (ne (sym (q .here) ∙ ap₂ (λ (x y : ℕ). walk (next v) x (suc y)) (e .0) (e .1) ∙ s .here))) (cut p k i)
 
@@ -136,7 +136,7 @@ module _ (v : View) (met : List ℕ) (of m at : ℕ) (n : MetWithin v met of m) 
     now : getD (set met at y) at 0 ≡ y
     now = getD-set-same met at y 0 (omega (arith, n .long))
 
-    noted-set : y ≢ 0 → (y ≢ twice → MetOnce v (Within of (suc m)) at y) → (y ≡ twice → MetTwice v (Within of (suc m)) at) → MetWithin v (set met at y) of (suc m)
+    noted-set : y ≢ 0 → (y ≢ twice → MetOnce v (PassedPairs of (suc m)) at y) → (y ≡ twice → MetTwice v (PassedPairs of (suc m)) at) → MetWithin v (set met at y) of (suc m)
     noted-set none once again = record {
       long = length-set met at y ∙ n .long;
       none = λ c z p k i q. elim (ℕ-discrete c at) [
@@ -149,11 +149,11 @@ module _ (v : View) (met : List ℕ) (of m at : ℕ) (n : MetWithin v met of m) 
       ];
       again = λ c z. elim (ℕ-discrete c at) [
         | yes e ↦ rw e (again (sym now ∙ (rw e at z)))
-        | no ne ↦ twice-wider v (Within of m) (Within of (suc m)) more c (n .again c (sym (same c ne) ∙ z))
+        | no ne ↦ twice-wider v (PassedPairs of m) (PassedPairs of (suc m)) more c (n .again c (sym (same c ne) ∙ z))
       ];
     }
       where
-        before : (c : ℕ) → c ≢ at → {x : ℕ} → MetOnce v (Within of m) c x → MetOnce v (Within of (suc m)) c x
+        before : (c : ℕ) → c ≢ at → {x : ℕ} → MetOnce v (PassedPairs of m) c x → MetOnce v (PassedPairs of (suc m)) c x
         before c ne {x} o = record { place = o .place; passed = more x (o .place) (o .passed); stands = o .stands; once = λ p k i q. o .once p k (other c ne p k i q) q }
 
   -- it was met by no pair, or by one
@@ -163,10 +163,10 @@ module _ (v : View) (met : List ℕ) (of m at : ℕ) (n : MetWithin v met of m) 
     | no nz ↦ rw (ne-eqb (getD met at 0) 0 nz) (noted-set twice (λ e. omega arith) (λ h. absurd (h refl)) (λ e. second (n .once at nz w)))
   ]
     where
-      first : getD met at 0 ≡ 0 → MetOnce v (Within of (suc m)) at of
+      first : getD met at 0 ≡ 0 → MetOnce v (PassedPairs of (suc m)) at of
       first z = record { place = m; passed = new; stands = s; once = λ p k i q. ⊎-elim (λ o. absurd (n .none at z p k o q)) (λ e. e) (cut p k i) }
 
-      second : {x : ℕ} → MetOnce v (Within of m) at x → MetTwice v (Within of (suc m)) at
+      second : {x : ℕ} → MetOnce v (PassedPairs of m) at x → MetTwice v (PassedPairs of (suc m)) at
       second {x} o = record {
         p = x;
         k = o .place;
@@ -192,7 +192,7 @@ pub meeting-none : (v : View) (of : ℕ) (met : List ℕ) (at : ℕ) → Parent 
 unfolding walk
 meeting-none v of met at par n e = record {
   steps = 0;
-  noted = noted-wider v (λ p k. p ≤ of - 1) (Within of 0) (λ p k l. inl (omega (arith, par .low))) met (λ p k c i s. inl (⊎-elim (λ l. omega arith) (λ h. absurd (not-suc-le-zero (h .1))) i)) n;
+  noted = noted-wider v (λ p k. p ≤ of - 1) (PassedPairs of 0) (λ p k l. inl (omega (arith, par .low))) met (λ p k c i s. inl (⊎-elim (λ l. omega arith) (λ h. absurd (not-suc-le-zero (h .1))) i)) n;
   each = λ j l. absurd (not-suc-le-zero l);
   ahead = sym e;
 }
@@ -226,10 +226,10 @@ module _ (v : View) (of : ℕ) (met : List ℕ) (at : ℕ) (g : Meeting v of met
       stands = record { parent = par; children = each; here = g .ahead }
 
   -- the chain is passed, if what follows in it was met twice
-  rest : ((j c : ℕ) → StandsAt v of (g .steps + j) c → MetTwice v (Within of (g .steps)) c) → MetUpTo v met of
-  rest later = noted-wider v (Within of (g .steps)) (λ p k. p ≤ of) (λ p k i. ⊎-elim (λ l. omega arith) (λ h. omega (arith, h .0)) i) met old (g .noted)
+  rest : ((j c : ℕ) → StandsAt v of (g .steps + j) c → MetTwice v (PassedPairs of (g .steps)) c) → MetUpTo v met of
+  rest later = noted-wider v (PassedPairs of (g .steps)) (λ p k. p ≤ of) (λ p k i. ⊎-elim (λ l. omega arith) (λ h. omega (arith, h .0)) i) met old (g .noted)
     where
-      old : (p k c : ℕ) → p ≤ of → StandsAt v p k c → (Within of (g .steps) p k) ⊎ (MetTwice v (Within of (g .steps)) c)
+      old : (p k c : ℕ) → p ≤ of → StandsAt v p k c → (PassedPairs of (g .steps) p k) ⊎ (MetTwice v (PassedPairs of (g .steps)) c)
       old p k c l s = elim (decLt p of) [
         | yes h ↦ inl (inl h)
         | no h ↦ (let e : p ≡ of = omega arith in elim (decLt k (g .steps)) [
@@ -246,21 +246,21 @@ module _ (v : View) (of : ℕ) (met : List ℕ) (at : ℕ) (g : Meeting v of met
   pub meeting-stop : getD met at 0 ≡ twice → MetUpTo v met of
   meeting-stop z = rest (λ j c s. later (suc j) j c (omega arith) s)
     where
-      t : MetTwice v (Within of (g .steps)) at
+      t : MetTwice v (PassedPairs of (g .steps)) at
       t = g .noted .again at z
 
       on : (p k j c : ℕ) → StandsAt v p k at → StandsAt v of (g .steps + j) c → StandsAt v p (k + j) c
       on p k j c s a = stands-alike v p k of (g .steps) at j c s (stands-before v of (g .steps) j at c (g .ahead) a) a
 
       -- it is passed at c too, or c stands earlier after `at`
-      along : (p k j c : ℕ) → Within of (g .steps) p k → StandsAt v p k at → StandsAt v of (g .steps + j) c
-          → (Within of (g .steps) p (k + j)) ⊎ ((i : ℕ) × (i < j) × StandsAt v of (g .steps + i) c)
+      along : (p k j c : ℕ) → PassedPairs of (g .steps) p k → StandsAt v p k at → StandsAt v of (g .steps + j) c
+          → (PassedPairs of (g .steps) p (k + j)) ⊎ ((i : ℕ) × (i < j) × StandsAt v of (g .steps + i) c)
       along p k j c i s a = ⊎-elim (λ l. inl (inl l)) (λ h. elim (decLt (k + j) (g .steps)) [
         | yes b ↦ inl (inr (h .0, b))
         | no b ↦ (let q : k + j ≡ g .steps + (k + j - g .steps) = omega arith in inr (k + j - g .steps, omega (arith, h .1), rw (← q, ← h .0) (on p k j c s a)))
       ]) i
 
-      later : (n j c : ℕ) → j < n → StandsAt v of (g .steps + j) c → MetTwice v (Within of (g .steps)) c
+      later : (n j c : ℕ) → j < n → StandsAt v of (g .steps + j) c → MetTwice v (PassedPairs of (g .steps)) c
       later zero j c l a = absurd (not-suc-le-zero l)
       later (suc n) j c l a =
           ⊎-elim (λ i. ⊎-elim (λ i'. record {

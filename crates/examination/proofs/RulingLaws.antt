@@ -15,7 +15,7 @@ use Rattle.examination.specs.declared.finding.Finding.{Finding}
 use Rattle.examination.specs.declared.finding.Finding.the-variants.{Holds, Fails}
 use Rattle.examination.specs.Findings.{Lowest, Finds}
 use Rattle.examination.specs.Rulings.{Ruling, speaks, zoneKind, sectorKind, indexKind, countKind, BrokenIn, Lower, Names}
-use Rattle.examination.specs.Faults.{ruleOf, placeKindOf, placeOf, NamesFault, isFault, zoneFault, sectorFault, indexFault, countFault}
+use Rattle.examination.specs.Faults.{ruleOf, placeKindOf, faultPlace, NamesFault, isFault, zoneFault, sectorFault, indexFault, countFault}
 
 -- ---- what was found of one rule is named
 
@@ -25,31 +25,31 @@ pub record Verdict (x : Ruling) (f : Fault) : Type 0 where
   pub kinded : 0 < x .kind
 
 module _ (rule : ℕ) (P : ℕ → Type 0) (from end : ℕ) (g : Fault) where
-  holding : (kind : ℕ) → Each P from end → g ≡ Nothing → Names (speaks rule kind P from end ∷ []) (ruleOf g) (placeKindOf g) (placeOf g)
+  holding : (kind : ℕ) → Each P from end → g ≡ Nothing → Names (speaks rule kind P from end ∷ []) (ruleOf g) (placeKindOf g) (faultPlace g)
   unfolding Names
   holding kind h e = rw e (inl (h, (refl, refl, refl)))
 
-  failing : (kind k : ℕ) → Lowest P from end k → ruleOf g ≡ rule → placeKindOf g ≡ kind → placeOf g ≡ k → Names (speaks rule kind P from end ∷ []) (ruleOf g) (placeKindOf g) (placeOf g)
+  failing : (kind k : ℕ) → Lowest P from end k → ruleOf g ≡ rule → placeKindOf g ≡ kind → faultPlace g ≡ k → Names (speaks rule kind P from end ∷ []) (ruleOf g) (placeKindOf g) (faultPlace g)
   unfolding Names
   failing kind k h r c n = inr (record { rule' = r; kind' = c; lowest = rw n h })
 
   pub zone-verdict : (f : Finding) → Finds P from end f → g ≡ zoneFault rule f → Verdict (speaks rule zoneKind P from end) g
   zone-verdict Holds h e = record { names = holding zoneKind h e; kinded = omega arith }
-  zone-verdict (Fails k) h e = record { names = failing zoneKind k h (ap ruleOf e) (ap placeKindOf e) (ap placeOf e); kinded = omega arith }
+  zone-verdict (Fails k) h e = record { names = failing zoneKind k h (ap ruleOf e) (ap placeKindOf e) (ap faultPlace e); kinded = omega arith }
 
   pub sector-verdict : (f : Finding) → Finds P from end f → g ≡ sectorFault rule f → Verdict (speaks rule sectorKind P from end) g
   sector-verdict Holds h e = record { names = holding sectorKind h e; kinded = omega arith }
-  sector-verdict (Fails k) h e = record { names = failing sectorKind k h (ap ruleOf e) (ap placeKindOf e) (ap placeOf e); kinded = omega arith }
+  sector-verdict (Fails k) h e = record { names = failing sectorKind k h (ap ruleOf e) (ap placeKindOf e) (ap faultPlace e); kinded = omega arith }
 
   pub index-verdict : (f : Finding) → Finds P from end f → g ≡ indexFault rule f → Verdict (speaks rule indexKind P from end) g
   index-verdict Holds h e = record { names = holding indexKind h e; kinded = omega arith }
-  index-verdict (Fails k) h e = record { names = failing indexKind k h (ap ruleOf e) (ap placeKindOf e) (ap placeOf e); kinded = omega arith }
+  index-verdict (Fails k) h e = record { names = failing indexKind k h (ap ruleOf e) (ap placeKindOf e) (ap faultPlace e); kinded = omega arith }
 
 -- a rule as a whole, at place 0
 pub count-verdict : (rule : ℕ) (P : Type 0) (g : Fault) (r : Bool) → Says r P → g ≡ countFault rule r → Verdict (speaks rule countKind (λ k. P) 0 1) g
 count-verdict rule P g true s e = record { names = holding rule (λ k. P) 0 1 g countKind (λ k l lo. s) e; kinded = omega arith }
 count-verdict rule P g false s e = record {
-  names = failing rule (λ k. P) 0 1 g countKind 0 (record { low = omega arith; high = omega arith; fails = s; below = λ k l lo. absurd (omega arith) }) (ap ruleOf e) (ap placeKindOf e) (ap placeOf e);
+  names = failing rule (λ k. P) 0 1 g countKind 0 (record { low = omega arith; high = omega arith; fails = s; below = λ k l lo. absurd (omega arith) }) (ap ruleOf e) (ap placeKindOf e) (ap faultPlace e);
   kinded = omega arith;
 }
 
@@ -100,14 +100,14 @@ names-on (x ∷ xs) ys rule kind place h n = inl (h .0, names-on xs ys rule kind
 module _ (xs ys : List Ruling) (f : Fault) (h : NamesFault xs f) where
   -- a fault among the first is that of all
   pub fault-stop : isFault f ≡ true → NamesFault (xs ++ ys) f
-  fault-stop e = names-stop xs ys (ruleOf f) (placeKindOf f) (placeOf f) h (fault-kind f e)
+  fault-stop e = names-stop xs ys (ruleOf f) (placeKindOf f) (faultPlace f) h (fault-kind f e)
 
   pub no-fault-hold : Kinded xs → isFault f ≡ false → HoldAll xs
-  no-fault-hold k e = names-hold xs k (ruleOf f) (placeKindOf f) (placeOf f) h (ap placeKindOf (no-fault f e))
+  no-fault-hold k e = names-hold xs k (ruleOf f) (placeKindOf f) (faultPlace f) h (ap placeKindOf (no-fault f e))
 
   -- where there is none, that of the others is
   pub fault-next : Kinded xs → isFault f ≡ false → (g : Fault) → NamesFault ys g → NamesFault (xs ++ ys) g
-  fault-next k e g n = names-on xs ys (ruleOf g) (placeKindOf g) (placeOf g) (no-fault-hold k e) n
+  fault-next k e g n = names-on xs ys (ruleOf g) (placeKindOf g) (faultPlace g) (no-fault-hold k e) n
 
 -- one ruling, and those after it
 pub fault-only : (x : Ruling) (f : Fault) → Verdict x f → NamesFault (x ∷ []) f
@@ -138,7 +138,7 @@ names-one (x ∷ xs) r k n r' k' n' (inr h) (inl g) = absurd (h .lowest .fails (
 names-one (x ∷ xs) r k n r' k' n' (inr h) (inr g) = (h .rule' ∙ sym (g .rule'), h .kind' ∙ sym (g .kind'), lowest-one (x .law) (x .from) (x .end) n n' (h .lowest) (g .lowest))
 
 -- an answer has its three numbers, and they have one answer
-pub fault-one : (f g : Fault) → ruleOf f ≡ ruleOf g → placeKindOf f ≡ placeKindOf g → placeOf f ≡ placeOf g → f ≡ g
+pub fault-one : (f g : Fault) → ruleOf f ≡ ruleOf g → placeKindOf f ≡ placeKindOf g → faultPlace f ≡ faultPlace g → f ≡ g
 fault-one Nothing Nothing r k n = refl
 fault-one (AtZone a x) (AtZone b y) r k n = ap₂ AtZone r (ap (λ (m : ℕ). record { 0 = m }) n)
 fault-one (AtSector a x) (AtSector b y) r k n = ap₂ AtSector r (ap (λ (m : ℕ). record { 0 = m }) n)
@@ -167,7 +167,7 @@ fault-one (AtCount a) (AtIndex b y) r k n = absurd (omega arith)
 
 pub faults-one : (xs : List Ruling) (f g : Fault) → NamesFault xs f → NamesFault xs g → f ≡ g
 faults-one xs f g h k =
-    let e = names-one xs (ruleOf f) (placeKindOf f) (placeOf f) (ruleOf g) (placeKindOf g) (placeOf g) h k in
+    let e = names-one xs (ruleOf f) (placeKindOf f) (faultPlace f) (ruleOf g) (placeKindOf g) (faultPlace g) h k in
     fault-one f g (e .0) (e .1) (e .2)
 
 -- ---- what is named fails there, and nothing lower fails

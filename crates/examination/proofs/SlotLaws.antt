@@ -15,11 +15,13 @@ use Rattle.field.specs.Parts.{AllBytes}
 use Rattle.field.proofs.Tests.{says-true, says-false, passed, refused, says-map, says-eq}
 use borrow.Author.Tests.{not-true, not-false}
 use Rattle.tables.specs.declared.index.Pointer.{Pointer}
+use Rattle.tables.specs.declared.zone.ZoneEntry.{ZoneEntry}
+use Rattle.tables.specs.Kinds.{zoneOf}
 use Rattle.tables.specs.declared.entry.Entry.{Entry}
 use Rattle.tables.specs.Entries.{entryOf, isParent}
 use Rattle.tables.specs.Indexes.{wordOf, pointerAt, slotsOf, baseOf, UsedAt}
 use Rattle.tables.specs.Views.{View}
-use Rattle.tables.specs.Rules.R6.{Run, Shape, PointerLaw}
+use Rattle.tables.specs.Rules.R6.{Run, HeaderRun, HeaderLaw, Shape, PointerLaw}
 use Rattle.examination.specs.Slots.{SlotsLaw, Leading, Heads}
 use Rattle.tables.proofs.KindLaws.{parent-word, not-parent}
 use Rattle.tables.proofs.IndexLaws.{base-parent, slots-in}
@@ -114,12 +116,32 @@ module _ (v : View) (t : List ℕ) (at : ℕ) where
 
 -- ---- a parent's first pointer and header pointer
 
-module _ (t : List ℕ) (q : Pointer) (u : Bool) (at : q ≡ pointerAt t 64) (s : Says u (q .start .0 + q .count ≡ 0)) where
-  pub heads-none : u ≡ true → Heads t → ⊥
+-- a header's run: where its first sector and its last do not lie in one zone; and by the entry of that zone
+module _ (v : View) (a c z : ℕ) (is : z ≡ zoneOf a) where
+  pub run-apart : (last : ℕ) → last ≡ zoneOf (a + (c - 1)) → (last ≡ z → ⊥) → HeaderRun v a c → ⊥
+  run-apart last e ne h = ne (e ∙ h .one ∙ sym is)
+
+  pub header-says : (last : ℕ) (e : ZoneEntry) → last ≡ zoneOf (a + (c - 1)) → last ≡ z → e ≡ v .zone z → 1 ≤ c → c ≤ 32 → 1024 ≤ a → a + c ≤ 1024 * (v .zones - 1) → Says (eqb (e .ztype) 2) (HeaderRun v a c)
+  header-says last e el same at some few low high =
+      let q : e .ztype ≡ v .zone (zoneOf a) .ztype = ap (λ (x : ZoneEntry). x .ztype) at ∙ ap (λ (n : ℕ). v .zone n .ztype) is in
+      says-eq (e .ztype) 2
+      (λ t. record { some = some; few = few; low = low; high = high; one = sym el ∙ same ∙ is; typed = sym q ∙ t })
+      (λ h. q ∙ h .typed)
+
+-- the header pointer: zero, or by its run
+module _ (v : View) (t : List ℕ) (q : Pointer) (u : Bool) (at : q ≡ pointerAt t 58) (s : Says u (q .start .0 + q .count ≡ 0)) where
+  pub header-none : u ≡ true → HeaderLaw v t
+  header-none e = record { run = λ h. absurd (read-zero t 58 q at (says-true u s e) h) }
+
+  pub header-used : (r : Bool) → u ≡ false → Says r (HeaderRun v (q .start .0) (q .count)) → Says r (HeaderLaw v t)
+  header-used r e = says-map r (λ h. record { run = λ _. rw at at h }) (λ law. rw at (law .run (read-used t 58 q at (says-false u s e))))
+
+module _ (v : View) (t : List ℕ) (q : Pointer) (u : Bool) (at : q ≡ pointerAt t 64) (s : Says u (q .start .0 + q .count ≡ 0)) where
+  pub heads-none : u ≡ true → Heads v t → ⊥
   heads-none e h = read-zero t 64 q at (says-true u s e) (h .one)
 
-  pub heads-says : (r : Bool) → u ≡ false → Says r (AllBytes t 58 6 0) → Says r (Heads t)
-  heads-says r e = says-map r (λ all. record { one = read-used t 64 q at (says-false u s e); header = record { zero = all } }) (λ h. h .header .zero)
+  pub heads-says : (r : Bool) → u ≡ false → Says r (HeaderLaw v t) → Says r (Heads v t)
+  heads-says r e = says-map r (λ h. record { one = read-used t 64 q at (says-false u s e); header = h }) (λ h. h .header)
 
 -- ---- a table
 
@@ -134,13 +156,13 @@ module _ (v : View) (i : ℕ) (t : List ℕ) where
   shape-slots : Shape v i t → SlotsLaw v t (baseOf i t) (slotsOf i t)
   shape-slots h = record { first = h .first; used = h .used }
 
-  shape-heads : wordOf t ≡ i → Shape v i t → Heads t
+  shape-heads : wordOf t ≡ i → Shape v i t → Heads v t
   shape-heads e h = record { one = rw (base-parent i t e) at (h .one e); header = h .header e }
 
   shape-child : SlotsLaw v t (baseOf i t) (slotsOf i t) → (wordOf t ≡ i → ⊥) → Shape v i t
   shape-child s ne = record { first = s .first; used = s .used; one = λ e. absurd (ne e); header = λ e. absurd (ne e) }
 
-  shape-parent : SlotsLaw v t (baseOf i t) (slotsOf i t) → wordOf t ≡ i → Heads t → Shape v i t
+  shape-parent : SlotsLaw v t (baseOf i t) (slotsOf i t) → wordOf t ≡ i → Heads v t → Shape v i t
   shape-parent s e h = record { first = s .first; used = s .used; one = λ w. rw (base-parent i t e) (h .one); header = λ w. h .header }
 
 module _ (v : View) (i : ℕ) (t : List ℕ) (at n : ℕ) (r : Bool) (is : t ≡ v .table i) (base : at ≡ baseOf i t) (slots : n ≡ slotsOf i t) (s : Says r (SlotsLaw v t at n)) where
@@ -155,7 +177,7 @@ module _ (v : View) (i : ℕ) (t : List ℕ) (at n : ℕ) (r : Bool) (is : t ≡
     pub table-child : 1 ≤ i → not c ≡ true → PointerLaw v i
     table-child lo n = rw is at (shape-child v i t (holds h) (λ w. not-parent i (v .table i) e d lo (sym ask ∙ not-true c n) (ap wordOf (sym is) ∙ w)))
 
-    pub table-says : (p : Bool) → not c ≡ false → Says p (Heads t) → Says p (PointerLaw v i)
+    pub table-says : (p : Bool) → not c ≡ false → Says p (Heads v t) → Says p (PointerLaw v i)
     table-says p n =
         let o : wordOf t ≡ i = ap wordOf is ∙ parent-word i (v .table i) e d (sym ask ∙ not-false c n) in
         says-map p (λ x. rw is at (shape-parent v i t (holds h) o x)) (λ law. shape-heads v i t o (rw is law))

@@ -22,16 +22,16 @@ placeKindOf (AtSector r s) = sectorKind
 placeKindOf (AtIndex r i) = indexKind
 placeKindOf (AtCount r) = countKind
 
-abbrev pub placeOf : Fault → ℕ
-placeOf Nothing = 0
-placeOf (AtZone r z) = z .0
-placeOf (AtSector r s) = s .0
-placeOf (AtIndex r i) = i .0
-placeOf (AtCount r) = 0
+abbrev pub faultPlace : Fault → ℕ
+faultPlace Nothing = 0
+faultPlace (AtZone r z) = z .0
+faultPlace (AtSector r s) = s .0
+faultPlace (AtIndex r i) = i .0
+faultPlace (AtCount r) = 0
 
 -- f names the first of these rules that fails, and the lowest place where it does
 abbrev pub NamesFault : List Ruling → Fault → Type 0
-NamesFault rs f = Names rs (ruleOf f) (placeKindOf f) (placeOf f)
+NamesFault rs f = Names rs (ruleOf f) (placeKindOf f) (faultPlace f)
 
 -- a rule is broken
 abbrev pub isFault : Fault → Bool

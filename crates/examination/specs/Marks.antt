@@ -1,4 +1,5 @@
--- The marks by which R7 is examined: a table of bits of their own, one a sector, 64 a word, to which each pointer's run is added.
+-- The marks by which R7 is examined: a table of bits of their own, one a sector, 64 a word, to which the run of each pointer and of each
+-- header pointer is added.
 use mathlib.Core.Path.{_≡_}
 use mathlib.Core.Bool.{Bool, true, false}
 use Prim.Native.Nat.{ℕ, _+_, _-_, _*_, _/_, _%_, _≤_, _<_}
@@ -9,7 +10,7 @@ use Rattle.field.specs.Bits.{bitOf}
 use Rattle.field.specs.Sum.{sumTo}
 use Rattle.tables.specs.declared.places.Places.{Places}
 use Rattle.tables.specs.Sectors.{sectorAt}
-use Rattle.tables.specs.Indexes.{slotsOf, startOf, countOf}
+use Rattle.tables.specs.Indexes.{wordOf, slotsOf, startOf, countOf, headerStart, headerCount}
 use Rattle.tables.specs.Views.{View, cov, claimsOf}
 
 -- ---- a word of marks
@@ -51,12 +52,13 @@ overFirst t base n s = sumTo n (λ j. cov (u32At t (base + 6 * j)) (u16At t (bas
 unfoldable pub overTables : View → ℕ → ℕ → ℕ
 overTables v n s = sumTo n (λ k. claimsOf (k + 1) (v .table (k + 1)) s)
 
--- the pointers of table i end within the marks, and after one with no sectors there is none with any
+-- the pointers of table i end within the marks, and so does a parent's header; after a pointer with no sectors there is none with any
 pub record TableFits (i : ℕ) (t : List ℕ) (len : ℕ) : Type 0 where
   pub size : length t ≡ 128
   pub long : len ≡ 4096
   pub fit : (j : ℕ) → j < slotsOf i t → startOf i t j + countOf i t j ≤ 262144
   pub rest : (j : ℕ) → countOf i t j ≡ 0 → (k : ℕ) → k < slotsOf i t → j ≤ k → countOf i t k ≡ 0
+  pub header : wordOf t ≡ i → headerStart t + headerCount t ≤ 262144
 
 -- outside zones 1 and Z the marks are the sector table's bits
 abbrev pub Agrees : Places → List ℕ → List ℕ → Type 0

@@ -47,9 +47,9 @@ abbrev pub MetUpTo : View → List ℕ → ℕ → Type 0
 MetUpTo v met i = Noted v (λ p k. p ≤ i) met
 
 -- the pairs before the m-th child after parent `of`
-abbrev pub Within : ℕ → ℕ → ℕ → ℕ → Type 0
-Within of m p k = (p < of) ⊎ ((p ≡ of) × (k < m))
+abbrev pub PassedPairs : ℕ → ℕ → ℕ → ℕ → Type 0
+PassedPairs of m p k = (p < of) ⊎ ((p ≡ of) × (k < m))
 
 -- the chains of the parents below `of` were passed, and the first m children of its own
 abbrev pub MetWithin : View → List ℕ → ℕ → ℕ → Type 0
-MetWithin v met of m = Noted v (Within of m) met
+MetWithin v met of m = Noted v (PassedPairs of m) met

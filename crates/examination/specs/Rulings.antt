@@ -7,7 +7,7 @@ use mathlib.Core.List.{List, [], _∷_, _++_}
 use lib.ListN.{getD, length}
 use Rattle.tables.specs.declared.places.Places.{Places}
 use Rattle.tables.specs.Each.{Each}
-use Rattle.tables.specs.Views.{View, viewOf, claimsOver, Under}
+use Rattle.tables.specs.Views.{View, viewOf, claimsOver}
 use Rattle.tables.specs.Rules.R1.{zoneBytes, sectorBytes}
 use Rattle.tables.specs.Rules.R2.{ZoneLaw}
 use Rattle.tables.specs.Rules.R3.{BlockLaw}
@@ -25,20 +25,16 @@ use Rattle.examination.specs.Findings.{Lowest}
 abbrev pub TailByte : Places → ℕ → Type 0
 TailByte p o = ((p .zonetable + 6 * p .zones ≤ o) × (o < p .zonetable + zoneBytes (p .zones))) ⊎ ((p .sectortable + 128 * p .zones ≤ o) × (o < p .sectortable + sectorBytes (p .zones)))
 
--- R1 at sector s of the books: "the place is the sector of the books in which the lowest non-null tail byte stands"
+-- R1 at sector s of the books: "R1, once 1 to 3 do not apply, is about the null tails: the place is the sector of the books (0 to S-1) in
+-- which the lowest non-null tail byte stands."
 abbrev pub TailLaw : Places → List ℕ → ℕ → Type 0
 TailLaw p b s = (o : ℕ) → TailByte p o → o / 1024 ≡ s → getD b o 0 ≡ 0
 
--- R7 at sector s: "it fails at a sector that is under two pointers, or whose bit is not 'under a pointer'". By counting, as R7 is; the
--- words follow, and give it (SectorLaws: sector-words, words-sector)
+-- R7 at sector s: "a sector is owned if it is under a pointer or under a header pointer; none is owned twice", so it fails at a sector that is
+-- owned twice, or whose bit does not say whether it is owned. By counting, as R7 is; the words, SectorWords of R7, follow, and give it
+-- (SectorLaws: sector-words, words-sector)
 abbrev pub SectorLaw : View → ℕ → Type 0
 SectorLaw v s = claimsOver v s + nothing s ≡ v .bit s
-
--- the words: s is not under two pointers, and its bit says whether it is under one
-pub record SectorWords (v : View) (s : ℕ) : Type 0 where
-  pub one : (i j k l : ℕ) → Under v i j s → Under v k l s → (i ≡ k) × (j ≡ l)
-  pub set : v .bit s ≡ 1 → (i : ℕ) × (j : ℕ) × Under v i j s
-  pub under : (i j : ℕ) → Under v i j s → v .bit s ≡ 1
 
 -- R4's chain
 abbrev pub FreeChained : View → Type 0
@@ -71,7 +67,7 @@ abbrev pub speaks : ℕ → ℕ → (ℕ → Type 0) → ℕ → ℕ → Ruling
 speaks rule kind law from end = record { rule = rule; kind = kind; law = law; from = from; end = end }
 
 -- "R1 and R7 name a sector, R2 and R3 a zone, R4 (own bytes), R5, R6 and R8 an index; R4's chain and R9 are kind `count`, place 0."
--- "R4: own bytes first. The chain is named only where every table's own bytes are right."
+-- "R4: own bytes first. The chain (kind count, place 0) is named only where every table's own bytes are right."
 abbrev pub zoneRulings : Places → List ℕ → List Ruling
 zoneRulings p b = speaks 1 sectorKind (TailLaw p b) 0 (length b / 1024)
     ∷ speaks 2 zoneKind (ZoneLaw (viewOf p b)) 1 (p .zones + 1)

@@ -20,7 +20,7 @@ pub record GoodSlot (v : View) (t : List ℕ) (o : ℕ) : Type 0 where
 abbrev pub Leading : View → List ℕ → ℕ → ℕ → Type 0
 Leading v t at j = (k : ℕ) → k < j → GoodSlot v t (at + 6 * k)
 
--- "A parent has one at least, and a zero header pointer."
-pub record Heads (t : List ℕ) : Type 0 where
+-- "A parent has one at least", and a header pointer that is zero or a header's run
+pub record Heads (v : View) (t : List ℕ) : Type 0 where
   pub one : UsedAt t 64
-  pub header : HeaderLaw t
+  pub header : HeaderLaw v t

@@ -4,7 +4,7 @@ use tables::kinds::Index;
 use tables::kinds::Sector;
 use tables::kinds::Zone;
 ghost use mathlib.Core.Path.{_≡_};
-ghost use Rattle.examination.specs.Faults.{ruleOf, placeKindOf, placeOf, zoneFault, sectorFault, indexFault, countFault, isFault};
+ghost use Rattle.examination.specs.Faults.{ruleOf, placeKindOf, faultPlace, zoneFault, sectorFault, indexFault, countFault, isFault};
 
 pub enum Fault {
     // Every rule holds.
@@ -93,7 +93,7 @@ pub fn place_kind_of(f: Fault) -> u32
 }
 
 pub fn place_of(f: Fault) -> u32
-    ensures { λ r. ⌜ r ≡ placeOf f ⌝ }
+    ensures { λ r. ⌜ r ≡ faultPlace f ⌝ }
 {
     match f {
         Fault::Nothing => 0,

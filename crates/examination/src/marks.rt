@@ -1,5 +1,5 @@
-// R7, examined: each pointer's run is marked in a table of bits, 64 a word, and the marks are compared with the sector table.
-// A run is refused at the first sector that is marked already, so no sector is under two pointers.
+// R7, examined: the run of each pointer and of each header pointer is marked in a table of bits, 64 a word, and the marks are compared with
+// the sector table. A run is refused at the first sector that is marked already, so no sector is owned twice.
 use field::numbers::get_u32;
 use tables::index;
 use tables::index::Pointer;
@@ -11,7 +11,7 @@ ghost use Prim.Native.Nat.{_+_, _-_, _/_, _^_, _≤_, _<_};
 ghost use lib.ListN.{length};
 ghost use Rattle.field.specs.Says.{Says};
 ghost use Rattle.tables.specs.Places.{Layout};
-ghost use Rattle.tables.specs.Views.{viewOf, cov, claimsOf, claimsOver};
+ghost use Rattle.tables.specs.Views.{viewOf, cov, overOf, headerOver, claimsOf, claimsOver};
 ghost use Rattle.tables.specs.Rules.R6.{R6};
 ghost use Rattle.tables.specs.Rules.R7.{Owned};
 ghost use Rattle.examination.specs.Marks.{InWord, Piece, Adds, TableFits, Agrees, markAt, wordAt};
@@ -91,7 +91,7 @@ fn mark_run(m: &mut [u64], q: Pointer) -> bool
 // Marks the sectors under the pointers of table i. Used pointers come first, so the first one with no sectors ends them.
 fn mark_pointers(i: Index, t: &[u8], m: &mut [u64]) -> bool
     requires { ⌜ TableFits (i .0) (now t) (length (now m)) ⌝ }
-    ensures { λ r. ⌜ Adds r (now (m .entry)) (now (m .exit)) (claimsOf (i .0) (now (t .entry))) ⌝ }
+    ensures { λ r. ⌜ Adds r (now (m .entry)) (now (m .exit)) (overOf (i .0) (now (t .entry))) ⌝ }
 {
     let slots = index::slots(i, t);
     let base = index::base(i, t);
@@ -109,7 +109,29 @@ fn mark_pointers(i: Index, t: &[u8], m: &mut [u64]) -> bool
     true
 }
 
-// Marks the sectors under all pointers.
+// Marks the sectors under the header pointer of table i, if the table is a parent.
+fn mark_header_run(i: Index, t: &[u8], m: &mut [u64]) -> bool
+    requires { ⌜ TableFits (i .0) (now t) (length (now m)) ⌝ }
+    ensures { λ r. ⌜ Adds r (now (m .entry)) (now (m .exit)) (headerOver (i .0) (now (t .entry))) ⌝ }
+{
+    if index::first_word(t) != i.0 {
+        return true;
+    }
+    mark_run(m, index::pointer_at(t, index::HEADER))
+}
+
+// Marks the sectors that table i owns.
+fn mark_claims(i: Index, t: &[u8], m: &mut [u64]) -> bool
+    requires { ⌜ TableFits (i .0) (now t) (length (now m)) ⌝ }
+    ensures { λ r. ⌜ Adds r (now (m .entry)) (now (m .exit)) (claimsOf (i .0) (now (t .entry))) ⌝ }
+{
+    if !mark_pointers(i, t, m) {
+        return false;
+    }
+    mark_header_run(i, t, m)
+}
+
+// Marks the sectors that any table owns.
 fn mark_all(b: &[u8], p: Places, m: &mut [u64]) -> bool
     requires { ⌜ Layout p (length (now b)) ⌝ }
     requires { ⌜ R6 (viewOf p (now b)) ⌝ }
@@ -120,7 +142,7 @@ fn mark_all(b: &[u8], p: Places, m: &mut [u64]) -> bool
     let mut i: u32 = 0;
     while i < indexes {
         let t = index::table(b, p, Index(i + 1));
-        if !mark_pointers(Index(i + 1), t, m) {
+        if !mark_claims(Index(i + 1), t, m) {
             return false;
         }
         i += 1;
@@ -154,7 +176,7 @@ fn agrees(b: &[u8], p: Places, m: &[u64]) -> bool
     true
 }
 
-// Is each sector outside zones 1 and Z marked already or under one pointer, and not both, exactly if its bit is set?
+// Is each sector outside zones 1 and Z marked already or owned once, and not both, exactly if its bit is set?
 pub fn owned(b: &[u8], p: Places, m: &mut [u64]) -> bool
     requires { ⌜ Layout p (length (now b)) ⌝ }
     requires { ⌜ R6 (viewOf p (now b)) ⌝ }

@@ -1,6 +1,6 @@
-// Rule R7 place by place: the lowest sector that is under two pointers, or whose bit is not "under a pointer". Sectors are marked as in the
+// Rule R7 place by place: the lowest sector that is owned twice, or whose bit does not say whether it is owned. Sectors are marked as in the
 // examination of the rule, but nothing is asked from the lowest sector on that was met marked already. So each sector is marked once at
-// most, and the pass is linear, however many pointers lie over each other.
+// most, and the pass is linear, however many runs lie over each other.
 use crate::finding::Finding;
 use crate::marks::WORD;
 use crate::marks::WORDS;
@@ -17,7 +17,7 @@ ghost use mathlib.Core.Path.{_≡_};
 ghost use Prim.Native.Nat.{_+_, _-_, _*_, _/_, _≤_, _<_};
 ghost use lib.ListN.{length};
 ghost use Rattle.tables.specs.Places.{Layout};
-ghost use Rattle.tables.specs.Views.{viewOf, cov, claimsOf, claimsOver};
+ghost use Rattle.tables.specs.Views.{viewOf, cov, overOf, headerOver, claimsOf, claimsOver};
 ghost use Rattle.tables.specs.Rules.R6.{R6};
 ghost use Rattle.examination.specs.Findings.{Finds, Seeks};
 ghost use Rattle.examination.specs.Marks.{TableFits, markAt, MarksAdded};
@@ -65,9 +65,9 @@ fn mark_below(m: &mut [u64], q: Pointer, limit: Sector) -> Sector
 }
 
 // Marks the sectors under the pointers of table i, as far as they lie below the limit, which they may lower.
-fn mark_table(i: Index, t: &[u8], m: &mut [u64], limit: Sector) -> Sector
+fn pointers_below(i: Index, t: &[u8], m: &mut [u64], limit: Sector) -> Sector
     requires { ⌜ TableFits (i .0) (now t) (length (now m)) ⌝ }
-    ensures { λ r. ⌜ Lowers (now (m .entry)) (limit .0) (claimsOf (i .0) (now (t .entry))) (now (m .exit)) (r .0) ⌝ }
+    ensures { λ r. ⌜ Lowers (now (m .entry)) (limit .0) (overOf (i .0) (now (t .entry))) (now (m .exit)) (r .0) ⌝ }
 {
     let slots = index::slots(i, t);
     let base = index::base(i, t);
@@ -79,6 +79,26 @@ fn mark_table(i: Index, t: &[u8], m: &mut [u64], limit: Sector) -> Sector
         j += 1;
     }
     low
+}
+
+// The same for those under its header pointer, if it is a parent.
+fn header_below(i: Index, t: &[u8], m: &mut [u64], limit: Sector) -> Sector
+    requires { ⌜ TableFits (i .0) (now t) (length (now m)) ⌝ }
+    ensures { λ r. ⌜ Lowers (now (m .entry)) (limit .0) (headerOver (i .0) (now (t .entry))) (now (m .exit)) (r .0) ⌝ }
+{
+    if index::first_word(t) != i.0 {
+        return limit;
+    }
+    mark_below(m, index::pointer_at(t, index::HEADER), limit)
+}
+
+// The same for all that it owns.
+fn mark_table(i: Index, t: &[u8], m: &mut [u64], limit: Sector) -> Sector
+    requires { ⌜ TableFits (i .0) (now t) (length (now m)) ⌝ }
+    ensures { λ r. ⌜ Lowers (now (m .entry)) (limit .0) (claimsOf (i .0) (now (t .entry))) (now (m .exit)) (r .0) ⌝ }
+{
+    let low = pointers_below(i, t, m, limit);
+    header_below(i, t, m, low)
 }
 
 // The same for all tables.
@@ -145,8 +165,8 @@ fn lowest_sector(b: &[u8], p: Places, m: &mut [u64]) -> Finding
     first_unequal(b, p, m, limit)
 }
 
-// R7: is each sector outside zones 1 and Z under one pointer if its bit is set, else under none? The lowest that is not is sought only if it is
-// asked for, in the marks of the examination: one table of them serves both, in one function, so that no call has two on its stack.
+// R7: is each sector outside zones 1 and Z owned once if its bit is set, else not at all? The lowest that is not is sought only if it is asked
+// for, in the marks of the examination: one table of them serves both, in one function, so that no call has two on its stack.
 pub fn rule7(b: &[u8], p: Places, seek: bool) -> Finding
     requires { ⌜ Layout p (length (now b)) ⌝ }
     requires { ⌜ R6 (viewOf p (now b)) ⌝ }

@@ -1,6 +1,8 @@
-// Rule R6: used pointers come first, and each is a lawful run; a parent has one, and a zero header pointer.
+// Rule R6: used pointers come first, and each is a lawful run; a parent has one, and a header pointer that is
+// zero or a run of 1 to 32 sectors within one zone of type B.
 use crate::finding::Finding;
 use field::parts::bytes_all;
+use tables::blocks::HEADER_TYPE;
 use tables::blocks::block_sectors;
 use tables::blocks::is_data_type;
 use tables::entry::decode;
@@ -24,9 +26,12 @@ ghost use Rattle.tables.specs.Blocks.{Block, Whole};
 ghost use Rattle.tables.specs.Places.{Layout};
 ghost use Rattle.examination.specs.Findings.{Finds};
 ghost use Rattle.tables.specs.Views.{viewOf, cov};
-ghost use Rattle.tables.specs.Rules.R6.{Run, PointerLaw};
+ghost use Rattle.tables.specs.Rules.R6.{Run, HeaderRun, HeaderLaw, PointerLaw};
 ghost use Rattle.examination.specs.ZoneParts.{Inside, Lone, Meets, Edge, Part, Parts};
 ghost use Rattle.examination.specs.Slots.{SlotsLaw, Heads};
+
+// The most sectors of a header.
+const HEADER_MOST: u32 = 32;
 
 // Does a run from `start` on begin at an edge of the zone's blocks, or before the zone? The zone begins at an edge, so no sector is counted
 // from its first one.
@@ -183,15 +188,57 @@ fn slots_valid(b: &[u8], p: Places, t: &[u8], at: usize, n: usize) -> bool
     true
 }
 
-// Has a parent a first pointer, and a zero header pointer?
-fn heads_valid(t: &[u8]) -> bool
+// Is a header's run lawful?
+fn header_run_valid(b: &[u8], p: Places, q: Pointer) -> bool
+    requires { ⌜ Layout p (length (now b)) ⌝ }
+    ensures { λ r. ⌜ Says r (HeaderRun (viewOf p (now (b .entry))) (q .start .0) (q .count)) ⌝ }
+{
+    if q.count < 1 {
+        return false;
+    }
+    if q.count > HEADER_MOST {
+        return false;
+    }
+    if q.start.0 < ZONE {
+        return false;
+    }
+    let end = ZONE * (p.zones - 1);
+    if q.start.0 > end {
+        return false;
+    }
+    if q.start.0 + q.count > end {
+        return false;
+    }
+    let z = zone_of(q.start);
+    if zone_of(Sector(q.start.0 + (q.count - 1))).0 != z.0 {
+        return false;
+    }
+    zone_entry(b, p, z).ztype == HEADER_TYPE
+}
+
+// Is a parent's header pointer zero, or a lawful run?
+fn header_valid(b: &[u8], p: Places, t: &[u8]) -> bool
+    requires { ⌜ Layout p (length (now b)) ⌝ }
     requires { ⌜ length (now t) ≡ 128 ⌝ }
-    ensures { λ r. ⌜ Says r (Heads (now (t .entry))) ⌝ }
+    ensures { λ r. ⌜ Says r (HeaderLaw (viewOf p (now (b .entry))) (now (t .entry))) ⌝ }
+{
+    let q = index::pointer_at(t, index::HEADER);
+    if unused(q) {
+        return true;
+    }
+    header_run_valid(b, p, q)
+}
+
+// Has a parent a first pointer, and a lawful header pointer?
+fn heads_valid(b: &[u8], p: Places, t: &[u8]) -> bool
+    requires { ⌜ Layout p (length (now b)) ⌝ }
+    requires { ⌜ length (now t) ≡ 128 ⌝ }
+    ensures { λ r. ⌜ Says r (Heads (viewOf p (now (b .entry))) (now (t .entry))) ⌝ }
 {
     if unused(index::pointer_at(t, index::PARENT_POINTERS)) {
         return false;
     }
-    bytes_all(t, index::HEADER, index::POINTER, 0)
+    header_valid(b, p, t)
 }
 
 // Are the pointers of index table i lawful?
@@ -209,7 +256,7 @@ fn table_valid(b: &[u8], p: Places, i: Index) -> bool
     if !is_parent(decode(b, p, i)) {
         return true;
     }
-    heads_valid(t)
+    heads_valid(b, p, t)
 }
 
 pub fn rule6(b: &[u8], p: Places) -> Finding

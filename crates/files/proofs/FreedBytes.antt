@@ -6,6 +6,7 @@ use Prim.Native.Nat.{ℕ, zero, suc, _+_, _-_, _*_, _≤_, _<_}
 use native.Mathlib.Nat.{add-zero, not-suc-le-zero}
 use native.Mathlib.Decide.{ℕ-discrete, decLt}
 use native.Mathlib.Omega.{arith}
+use borrow.Author.Tests.{eq-eqb, ne-eqb}
 use lib.ListN.{getD, length, replicate, length-replicate}
 use Rattle.field.specs.Bits.{bitAt}
 use Rattle.field.specs.Kept.{Kept}
@@ -18,25 +19,25 @@ use Rattle.field.proofs.NumberLaws.{u32-kept, getD-zeros}
 use Rattle.field.proofs.PartLaws.{kept-over, over-part, same-at}
 use Rattle.field.proofs.RunLaws.{kept-setBits, set-in, set-out}
 use Rattle.tables.specs.declared.places.Places.{Places}
-use Rattle.tables.specs.Indexes.{tablePlace, tableAt, linkOf, slotsOf, startOf, countOf}
+use Rattle.tables.specs.Indexes.{tablePlace, tableAt, wordOf, linkOf, slotsOf, startOf, countOf, headerStart, headerCount}
 use Rattle.tables.specs.Places.{Layout}
 use Rattle.tables.specs.Sectors.{sectorAt}
-use Rattle.tables.specs.Views.{viewOf, Parent, walk, next, cov, claimsOf, overOf}
+use Rattle.tables.specs.Views.{viewOf, Parent, walk, next, cov, headerOver, claimsOf, overOf}
 use Rattle.tables.specs.Rules.R5.{FileChain}
 use Rattle.tables.specs.Rules.R6.{R6}
 use Rattle.tables.proofs.FrameLaws.{table-kept}
 use Rattle.tables.proofs.IndexLaws.{length-table}
-use Rattle.tables.proofs.PointerLaws.{cov-in, cov-before, cov-after}
+use Rattle.tables.proofs.PointerLaws.{cov-in, cov-before, cov-after, header-over, header-other}
 use Rattle.allocation.specs.Lengthened.{Quiet}
 use Rattle.allocation.proofs.TableLaws.{table-over, table-other}
-use Rattle.files.specs.Release.{chainOf, clearRuns, freeTable, freeTables}
+use Rattle.files.specs.Release.{chainOf, clearRuns, clearHeader, freeTable, freeTables}
 use Rattle.files.specs.Asked.{RunsWithin}
 use Rattle.files.proofs.FileTables.{tablesFrom, tables-in, tables-once, chain-tables}
 
 -- ---- runs of sectors
 
 -- a run of set sectors is cleared
-run-cleared : (b : List ℕ) (base from count s : ℕ) → Room (length b) base from count → cov from count s ≤ bitAt b base s
+pub run-cleared : (b : List ℕ) (base from count s : ℕ) → Room (length b) base from count → cov from count s ≤ bitAt b base s
     → bitAt (setBits b base from count 0) base s + cov from count s ≡ bitAt b base s
 run-cleared b base from count s room set =
     elim (decLt s from) [
@@ -50,13 +51,15 @@ run-cleared b base from count s room set =
       ]
     ]
 
--- R6: the sectors under a table's pointers are sectors of the volume; an unused pointer has none
+-- R6: the sectors under a table's pointers and its header pointer are sectors of the volume; an unused pointer has none
 runs-within : (p : Places) (b : List ℕ) (i : ℕ) → R6 (viewOf p b) → 1 ≤ i → i ≤ p .indexes → RunsWithin p i (tableAt p b i)
-runs-within p b i r lo hi j l =
-    elim (ℕ-discrete (startOf i (tableAt p b i) j + countOf i (tableAt p b i) j) 0) [
-      | yes e ↦ omega arith
-      | no ne ↦ omega (arith, r i (omega arith) lo .used j l (omega arith) .high)
-    ]
+runs-within p b i r lo hi =
+    let t = tableAt p b i in
+    let shape = r i (omega arith) lo in
+    record {
+      runs = λ j l. elim (ℕ-discrete (startOf i t j + countOf i t j) 0) [ yes e ↦ omega arith | no ne ↦ omega (arith, shape .used j l (omega arith) .high) ];
+      header = λ w. elim (ℕ-discrete (headerStart t + headerCount t) 0) [ yes e ↦ omega arith | no ne ↦ omega (arith, shape .header w .run (omega arith) .high) ];
+    }
 
 -- the sectors under the first n pointers of a table
 module _ (p : Places) (b : List ℕ) (i : ℕ) (t : List ℕ) (within : RunsWithin p i t) where
@@ -66,7 +69,7 @@ module _ (p : Places) (b : List ℕ) (i : ℕ) (t : List ℕ) (within : RunsWith
   kept-clear zero l = kept-refl b _ _
   kept-clear (suc n) l =
       kept-trans (kept-clear n (omega arith))
-      (kept-wider (kept-setBits (clearRuns p b i t n) (p .sectortable) (startOf i t n) (countOf i t n) 0) (omega arith) (omega (arith, within n l)))
+      (kept-wider (kept-setBits (clearRuns p b i t n) (p .sectortable) (startOf i t n) (countOf i t n) 0) (omega arith) (omega (arith, within .runs n l)))
 
   -- they are cleared, if they are set and none is under two
   clear-bits : Layout p (length b) → (s n : ℕ) → n ≤ slotsOf i t → sumTo n (λ j. cov (startOf i t j) (countOf i t j) s) ≤ bitAt b (p .sectortable) s
@@ -77,8 +80,29 @@ module _ (p : Places) (b : List ℕ) (i : ℕ) (t : List ℕ) (within : RunsWith
       let o = clear-bits lay s n (omega arith) (omega arith) in
       let k = kept-clear n (omega arith) in
       let room : Room (length (clearRuns p b i t n)) (p .sectortable) (startOf i t n) (countOf i t n)
-      = record { most = omega (arith, within n l); within = omega (arith, k .len, within n l) } in
+      = record { most = omega (arith, within .runs n l); within = omega (arith, k .len, within .runs n l) } in
       omega (arith, run-cleared (clearRuns p b i t n) (p .sectortable) (startOf i t n) (countOf i t n) s room (omega arith))
+
+-- the sectors under a parent's header pointer
+module _ (p : Places) (b : List ℕ) (i : ℕ) (t : List ℕ) (within : RunsWithin p i t) where
+  -- to clear them changes only the sector table
+  kept-header : Kept b (clearHeader p b i t) (p .sectortable) (128 * p .zones)
+  unfolding clearHeader
+  kept-header = elim (ℕ-discrete (wordOf t) i) [
+    | yes e ↦ rw (eq-eqb (wordOf t) i e) (kept-wider (kept-setBits b (p .sectortable) (headerStart t) (headerCount t) 0) (omega arith) (omega (arith, within .header e)))
+    | no ne ↦ rw (ne-eqb (wordOf t) i ne) (kept-refl b _ _)
+  ]
+
+  -- they are cleared, if they are set
+  header-bits : Layout p (length b) → (s : ℕ) → headerOver i t s ≤ bitAt b (p .sectortable) s
+      → bitAt (clearHeader p b i t) (p .sectortable) s + headerOver i t s ≡ bitAt b (p .sectortable) s
+  unfolding clearHeader
+  header-bits lay s h = elim (ℕ-discrete (wordOf t) i) [
+    | yes e ↦
+        let room : Room (length b) (p .sectortable) (headerStart t) (headerCount t) = record { most = omega (arith, within .header e); within = omega (arith, within .header e) } in
+        rw (eq-eqb (wordOf t) i e, header-over i t s e) (run-cleared b (p .sectortable) (headerStart t) (headerCount t) s room (omega (arith, header-over i t s e)))
+    | no ne ↦ rw (ne-eqb (wordOf t) i ne) (omega (arith, header-other i t s ne))
+  ]
 
 -- ---- what stays: all in front of the sector table, and what stands between it and the index tables
 
@@ -123,12 +147,23 @@ module _ (t : List ℕ) (long : length t ≡ 128) where
   blank-link = u32-kept 124 (kept-over t 0 (replicate 124 0) fits) (inr (omega (arith, length-replicate {A = ℕ} 124 0)))
 
 module _ (p : Places) (b : List ℕ) (i : ℕ) (lay : Layout p (length b)) (lo : 1 ≤ i) (hi : i ≤ p .indexes) (within : RunsWithin p i (tableAt p b i)) where
-  -- the books with its sectors clear
+  -- the books with the sectors under its pointers clear
+  abbrev runless : List ℕ
+  runless = clearRuns p b i (tableAt p b i) (slotsOf i (tableAt p b i))
+
+  kept-runless : Kept b runless (p .sectortable) (128 * p .zones)
+  kept-runless = kept-clear p b i (tableAt p b i) within (slotsOf i (tableAt p b i)) (omega arith)
+
+  -- the table itself is then as it was
+  pub table-runless : tableAt p runless i ≡ tableAt p b i
+  table-runless = table-kept p i kept-runless (inr (omega arith))
+
+  -- and with its header's clear too
   abbrev cleared : List ℕ
-  cleared = clearRuns p b i (tableAt p b i) (slotsOf i (tableAt p b i))
+  cleared = clearHeader p runless i (tableAt p b i)
 
   kept-cleared : Kept b cleared (p .sectortable) (128 * p .zones)
-  kept-cleared = kept-clear p b i (tableAt p b i) within (slotsOf i (tableAt p b i)) (omega arith)
+  kept-cleared = kept-trans kept-runless (kept-header p runless i (tableAt p b i) within)
 
   kept-zeros : Kept cleared (freeTable p b i) (tablePlace p i) 124
   unfolding freeTable
@@ -156,8 +191,9 @@ module _ (p : Places) (b : List ℕ) (i : ℕ) (lay : Layout p (length b)) (lo :
   table-bits : (s : ℕ) → s < 1024 * p .zones → claimsOf i (tableAt p b i) s ≤ sectorAt p b s → sectorAt p (freeTable p b i) s + claimsOf i (tableAt p b i) s ≡ sectorAt p b s
   unfolding claimsOf overOf
   table-bits s l h =
-      ap (λ (x : ℕ). x + claimsOf i (tableAt p b i) s) (bit-kept (p .sectortable) s kept-zeros (inl (omega arith)))
-      ∙ clear-bits p b i (tableAt p b i) within lay s (slotsOf i (tableAt p b i)) (omega arith) h
+      let t = tableAt p b i in
+      let runs = clear-bits p b i t within lay s (slotsOf i t) (omega arith) (omega arith) in
+      omega (arith, runs, header-bits p runless i t within (rw (kept-runless .len) lay) s (omega (arith, runs)), bit-kept (p .sectortable) s kept-zeros (inl (omega arith)))
 
 -- ---- the first n tables of a file that has m + 1
 
@@ -213,7 +249,7 @@ module _ (p : Places) (b : List ℕ) (lay : Layout p (length b)) (r6 : R6 (viewO
   tables-blanked zero l = record { spared = spared-refl p b; there = λ j lj ne. refl; here = λ k lk. absurd (not-suc-le-zero lk) }
   tables-blanked (suc n) l = blanked-more n l (freeFirst p b f n) (tables-blanked n (omega arith))
 
-  -- their sectors are cleared, if they are set and none is under two pointers
+  -- their sectors are cleared, if they are set and none is claimed twice
   pub tables-bits : (s : ℕ) → s < 1024 * p .zones → (n : ℕ) → n ≤ suc m → sumTo n (λ k. claimsOf (nth k) (tableAt p b (nth k)) s) ≤ sectorAt p b s
       → sectorAt p (freeFirst p b f n) s + sumTo n (λ k. claimsOf (nth k) (tableAt p b (nth k)) s) ≡ sectorAt p b s
   unfolding freeFirst sumTo

@@ -20,7 +20,7 @@ use Rattle.files.proofs.FreedFiles.{freed-R8, freed-R9}
 pub freed-rules : (v v' : View) (f : ℕ) {extra : ℕ → ℕ} → v .indexes ≤ 4096 → ((s : ℕ) → v .bit s < 2) → R2 v → R3 v → R4 v → R5 v → R6 v → Owned v extra → R8 v → R9 v
     → Parent v f → deletedBit (attributeOf (v .table f)) ≡ 1 → Freed v v' f → Uncounted extra v' (freedBlocks v f)
 freed-rules v v' f few small r2 r3 r4 r5 r6 r7 r8 r9 parent gone h = record {
-  r2 = freed-R2 v v' f h r6 r7 small r2;
+  r2 = freed-R2 v v' f h r6 r2;
   short = λ z l lo. freed-short v v' f h r6 small z (rw (h .zones) at l) lo r2 r3;
   r4 = freed-R4 v v' f h few r4 r5 parent;
   r5 = freed-R5 v v' f h few r5;

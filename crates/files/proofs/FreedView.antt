@@ -11,7 +11,7 @@ use Rattle.field.specs.Kept.{Kept}
 use Rattle.field.specs.Numbers.{u16At, u32At, putU32}
 use Rattle.field.specs.Parts.{over, AllBytes}
 use Rattle.field.specs.Sum.{sumTo}
-use Rattle.field.proofs.BitLaws.{bitAt-lt, bit-kept}
+use Rattle.field.proofs.BitLaws.{bit-kept}
 use Rattle.field.proofs.Frames.{kept-refl, kept-trans, kept-wider}
 use Rattle.field.proofs.NumberLaws.{u16-kept, u32-kept, kept-putU32, u32-put-same}
 use Rattle.field.proofs.PartLaws.{kept-over}
@@ -27,7 +27,7 @@ use Rattle.tables.proofs.ChoiceLaws.{sum-mono}
 use Rattle.tables.proofs.Sector1CountLaws.{only-le}
 use Rattle.tables.proofs.FrameLaws.{sector1-zone, sector1-bit, sector1-table, sector1-tails}
 use Rattle.tables.proofs.IndexLaws.{length-table}
-use Rattle.tables.proofs.PointerLaws.{claimed-under, under-inside}
+use Rattle.tables.proofs.PointerLaws.{claimed-inside}
 use Rattle.tables.proofs.ZoneEntryLaws.{zone-kept}
 use Rattle.allocation.specs.Last.{lastTable}
 use Rattle.allocation.specs.Lengthened.{Quiet}
@@ -106,7 +106,7 @@ module _ (p : Places) (b : List ℕ) (lay : Layout p (length b)) {extra : ℕ �
   inside : (k : ℕ) → k < suc m → (1 ≤ table k) × (table k ≤ p .indexes)
   inside = tables-in v f m parent chain
 
-  -- R7: what its pointers lie over is set, and under no two of them
+  -- R7: what its tables claim is set, and claimed once
   gone-is : (s : ℕ) → gone v f s ≡ sumTo (suc m) (λ k. claimsOf (table k) (tableAt p b (table k)) s)
   unfolding gone
   gone-is s = file-tally v (lawful .r4) (lawful .r5) (lay .few) f parent (λ i t. claimsOf i t s)
@@ -119,8 +119,7 @@ module _ (p : Places) (b : List ℕ) (lay : Layout p (length b)) {extra : ℕ �
   gone-set s =
       elim (decLt 0 (gone v f s)) [
         | yes some ↦
-            let u = claimed-under v s (omega (arith, gone-le s)) in
-            let w = under-inside v (lawful .r6) (lawful .r7) (λ n. bitAt-lt b (p .sectortable) n) (u .0) (u .1) s (u .2) in
+            let w = claimed-inside v (lawful .r6) s (omega (arith, gone-le s)) in
             omega (arith, gone-le s, lawful .r7 .count s (w .1) (w .0))
         | no none ↦ omega arith
       ]

@@ -4,6 +4,7 @@ pub mod SeekLaws
 pub mod SectorPlaceLaws
 pub mod MoveLaws
 pub mod SectorLaws
+pub mod HeaderByteLaws
 pub mod FreedBytes
 pub mod FreedView
 pub mod FreedTables
@@ -17,5 +18,8 @@ pub mod RecountLaws
 pub mod ReleaseLaws
 pub mod FollowLaws
 pub mod UntouchedLaws
+pub mod FreeRunLaws
+pub mod HeadedLaws
+pub mod HeadedLawful
 pub mod GrownSteps
 pub mod GrownFrame

@@ -49,7 +49,7 @@ moved-twice false s = refl
 -- ---- sectors laid over a list, one after another
 
 -- a write apart from a part leaves it
-part-kept : {b b' : List ℕ} {o n : ℕ} (at w : ℕ) → Kept b b' o n → Apart at w o n → take w (drop at b') ≡ take w (drop at b)
+pub part-kept : {b b' : List ℕ} {o n : ℕ} (at w : ℕ) → Kept b b' o n → Apart at w o n → take w (drop at b') ≡ take w (drop at b)
 part-kept {b} {b'} {o} {n} at w k a =
     ext-getD 0 (take w (drop at b')) (take w (drop at b)) (simp (length-take, length-drop, k .len)) (λ j l. byte j (omega (arith, length-take w (drop at b'))))
   where
@@ -57,7 +57,7 @@ part-kept {b} {b'} {o} {n} at w k a =
     byte j l = getD-part b' at w j l ∙ k .out (at + j) (⊎-elim (λ h. inl (omega arith)) (λ h. inr (omega arith)) a) ∙ sym (getD-part b at w j l)
 
 -- different sectors are apart
-sectors-apart : (s t : ℕ) → s ≢ t → Apart (1024 * s) 1024 (1024 * t) 1024
+pub sectors-apart : (s t : ℕ) → s ≢ t → Apart (1024 * s) 1024 (1024 * t) 1024
 sectors-apart s t ne = elim (decLt s t) [ yes l ↦ inl (omega arith) | no g ↦ (let h : t < s = other g in inr (omega arith)) ]
   where
     other : (s < t → ⊥) → t < s

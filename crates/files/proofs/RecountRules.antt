@@ -8,22 +8,23 @@ use borrow.Author.Tests.{eq-eqb, ne-eqb}
 use Rattle.tables.specs.declared.zone.ZoneEntry.{ZoneEntry}
 use Rattle.tables.specs.Kinds.{zoneOf, firstOf}
 use Rattle.tables.specs.Blocks.{blockOf, perZone}
+use Rattle.tables.specs.Indexes.{headerStart}
 use Rattle.tables.specs.Views.{View, Parent, claimsOf, claimsOver, Under}
 use Rattle.tables.specs.Rules.R2.{Reads, ZoneBits, Untyped, InUse, R2}
 use Rattle.tables.specs.Rules.R3.{R3}
 use Rattle.tables.specs.Rules.R4.{R4}
 use Rattle.tables.specs.Rules.R5.{R5}
-use Rattle.tables.specs.Rules.R6.{R6}
+use Rattle.tables.specs.Rules.R6.{HeaderLaw, R6}
 use Rattle.tables.specs.Rules.R7.{Owned}
 use Rattle.tables.specs.Rules.R8.{R8}
 use Rattle.tables.specs.Rules.R9.{R9}
 use Rattle.tables.proofs.BlockLaws.{block-of}
-use Rattle.tables.proofs.PointerLaws.{under-inside, under-set}
+use Rattle.tables.proofs.PointerLaws.{under-inside, under-set, header-set}
 use Rattle.tables.proofs.RoomLaws.{all-clear}
 use Rattle.tables.proofs.SameLaws.{blocks-same}
 use Rattle.allocation.proofs.FileSame.{file-same}
 use Rattle.allocation.proofs.ChangeLaws.{parent-under}
-use Rattle.allocation.proofs.TakenHeld.{type-kept, run-kept, files-R4, files-R5, files-tally, files-sectors, files-R9, files-under}
+use Rattle.allocation.proofs.TakenHeld.{type-kept, run-kept, header-run-kept, files-R4, files-R5, files-tally, files-sectors, files-R9, files-under}
 use Rattle.files.specs.Release.{recounted}
 use Rattle.files.specs.Freed.{Uncounted, Recounted}
 
@@ -108,6 +109,14 @@ module _ (v v' : View) (freed : ℕ → ℕ) (small : (s : ℕ) → v .bit s < 2
   set-under : (i j s : ℕ) → Under v i j s → v .bit s ≡ 1
   set-under i j s = under-set v (u .r6) (u .r7) small s i j
 
+  -- a header's sectors are set, so that its zone is not left empty
+  now-header : (i : ℕ) → Parent v i → HeaderLaw v (v .table i) → HeaderLaw v' (v .table i)
+  now-header i parent law = record {
+    run = λ w. (let r = law .run w in
+        header-run-kept v v' (h .zones) type-or-clear _ _ r
+        (header-set v (u .r6) (u .r7) small (headerStart (v .table i)) i (record { parent = parent; from = omega arith; to = omega (arith, r .some) })));
+  }
+
   now-R6 : R6 v'
   now-R6 i l lo =
       let hi : i ≤ v .indexes = omega (arith, h .files .indexes) in
@@ -116,7 +125,7 @@ module _ (v v' : View) (freed : ℕ → ℕ) (small : (s : ℕ) → v .bit s < 2
         first = o .first;
         used = λ j l w. run-kept v v' (h .zones) type-or-clear _ _ (o .used j l w) (λ s a c. set-under i j s (record { low = lo; high = hi; slot = l; from = a; to = c }));
         one = o .one;
-        header = o .header;
+        header = λ w. now-header i (record { low = lo; high = hi; word = w }) (o .header w);
       })
 
   now-owned : Owned v' extra

@@ -1,13 +1,13 @@
 -- Freed blocks counted in the zone entries, as the rules see it.
 use mathlib.Core.Path.{_≡_, refl, ap, _∙_}
 use mathlib.Core.Bool.{Bool, true, false, cond}
-use mathlib.Core.Logic.{inl, inr}
+use mathlib.Core.Logic.{_≢_, inl, inr}
 use mathlib.Core.List.{List}
 use Prim.Native.Nat.{ℕ, zero, suc, _+_, _-_, _*_, _≤_, _<_}
-use native.Mathlib.Decide.{ℕ-discrete}
+use native.Mathlib.Decide.{ℕ-discrete, decLt}
 use native.Mathlib.Omega.{arith}
 use lib.ListN.{length}
-use lib.Dec.{ltb}
+use lib.Dec.{eqb, ltb}
 use borrow.Author.Tests.{lt-ltb}
 use Rattle.field.specs.Kept.{Kept}
 use Rattle.field.proofs.Frames.{kept-refl, kept-trans, kept-wider}
@@ -15,8 +15,9 @@ use Rattle.field.proofs.BitLaws.{bit-kept}
 use Rattle.tables.specs.declared.places.Places.{Places}
 use Rattle.tables.specs.declared.zone.ZoneEntry.{ZoneEntry}
 use Rattle.tables.specs.Places.{Layout}
-use Rattle.tables.specs.Views.{viewOf}
+use Rattle.tables.specs.Views.{viewOf, onlyIf}
 use Rattle.tables.specs.Zones.{zoneAt, putZone}
+use Rattle.tables.proofs.Sector1CountLaws.{only-eq, only-ne}
 use Rattle.tables.proofs.ZoneEntryLaws.{zone-kept, kept-putZone, zone-put}
 use Rattle.allocation.specs.Steps.{SameFiles}
 use Rattle.allocation.specs.Lengthened.{Quiet}
@@ -46,6 +47,44 @@ module _ (p : Places) (b : List ℕ) (z n : ℕ) where
       go : (t : Bool) (e : ZoneEntry) → zoneAt p (cond t (putZone p b z (e .ztype) (e .free) (e .third)) b) z ≡ cond t e (zoneAt p b z)
       go true e = zone-put p b z (e .ztype) (e .free) (e .third) room
       go false e = refl
+
+-- of no other zone is any block freed
+abbrev pub onlyIn : ℕ → ℕ → ℕ → ℕ
+onlyIn z n y = onlyIf (eqb y z) n
+
+module _ (p : Places) (b : List ℕ) (lay : Layout p (length b)) (z n : ℕ) (low : 2 ≤ z) (high : z < p .zones) where
+  pub kept-one : Kept b (recountZone p b z n) (p .zonetable) (6 * p .zones)
+  kept-one = kept-wider (kept-zone p b z n) (omega arith) (omega arith)
+
+  one-here : zoneAt p (recountZone p b z n) z ≡ newEntry (zoneAt p b z) n
+  one-here = zone-counted p b z n (omega arith)
+
+  one-there : (y : ℕ) → 1 ≤ y → y ≤ p .zones → y ≢ z → zoneAt p (recountZone p b z n) y ≡ zoneAt p b y
+  one-there y lo hi ne = zone-kept p y (kept-zone p b z n) (elim (decLt y z) [ yes l ↦ inl (omega arith) | no l ↦ inr (omega (arith, ne)) ])
+
+  pub zone-recounted : Recounted (viewOf p b) (viewOf p (recountZone p b z n)) (onlyIn z n)
+  zone-recounted = record {
+    zones = refl;
+    files = files-between p kept-one (omega arith) (omega arith);
+    bit = λ s l. bit-kept (p .sectortable) s kept-one (inr (omega arith));
+    none = λ y l lo e. elim (ℕ-discrete y z) [
+      | yes q ↦ (let zero' : n ≡ 0 = omega (arith, only-eq y z n q) in rw q (one-here ∙ rw zero'))
+      | no ne ↦ one-there y (omega arith) (omega arith) ne
+    ];
+    some = λ y l lo e. elim (ℕ-discrete y z) [
+      | yes q ↦ rw (only-eq y z n q, q) (one-here ∙ rw (lt-ltb 0 n (omega (arith, only-eq y z n q))))
+      | no ne ↦ absurd (omega (arith, only-ne y z n ne))
+    ];
+    first = one-there 1 (omega arith) (omega arith) (λ q. omega arith);
+    last = one-there (p .zones) (omega arith) (omega arith) (λ q. omega arith);
+  }
+
+  pub zone-quiet : Quiet p b (recountZone p b z n)
+  zone-quiet = record {
+    len = kept-one .len;
+    low = λ j l. kept-one .out j (inl (omega arith));
+    tails = λ s h. record { zone = λ j l. kept-one .out _ (inr (omega arith)) ∙ h .zone j l; sector = λ j l. kept-one .out _ (inr (omega arith)) ∙ h .sector j l };
+  }
 
 -- ---- all zones
 

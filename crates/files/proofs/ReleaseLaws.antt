@@ -1,11 +1,12 @@
 -- A file given back: how the loops over its tables go on, and each way out of the functions.
 use mathlib.Core.Path.{_≡_, refl, sym, ap, _∙_}
-use mathlib.Core.Logic.{inl, inr}
+use mathlib.Core.Logic.{_≢_, inl, inr}
 use mathlib.Core.List.{List}
 use Prim.Native.Nat.{ℕ, suc, _+_, _-_, _*_, _≤_, _<_}
 use native.Mathlib.Numerals.{add-one}
 use native.Mathlib.Decide.{ℕ-discrete}
 use native.Mathlib.Omega.{arith}
+use borrow.Author.Tests.{eq-eqb, ne-eqb}
 use lib.Dec.{eqb}
 use lib.ListN.{length}
 use Rattle.field.specs.Kept.{Kept}
@@ -29,11 +30,11 @@ use Rattle.tables.proofs.FrameLaws.{table-kept}
 use Rattle.tables.proofs.IndexLaws.{slots-in}
 use Rattle.allocation.specs.Last.{lastTable}
 use Rattle.allocation.proofs.LastLaws.{file-short}
-use Rattle.files.specs.Release.{chainOf, fileTables, clearRuns, freeTable, freeTables, putFreed, freedFile, freedBlocks, recountZones, released}
+use Rattle.files.specs.Release.{chainOf, fileTables, clearRuns, clearHeader, freeTable, freeTables, putFreed, freedFile, freedBlocks, recountZones, released}
 use Rattle.files.specs.Freed.{AllShort}
 use Rattle.files.specs.Asked.{RunsWithin}
 use Rattle.files.proofs.FileTables.{tables-in, tables-long}
-use Rattle.files.proofs.FreedBytes.{kept-clear, freeFirst, free-all, table-spared, table-link, Blanked, blanked-table, blanked-within, tables-blanked}
+use Rattle.files.proofs.FreedBytes.{kept-clear, table-runless, freeFirst, free-all, table-spared, table-link, Blanked, blanked-table, blanked-within, tables-blanked}
 use Rattle.files.proofs.FreedView.{all-freed, linked-spared}
 use Rattle.files.proofs.ReleasedLawful.{freed-short}
 
@@ -82,7 +83,7 @@ module _ (p : Places) (b : List ℕ) (i n at : ℕ) (x : List ℕ) (j : ℕ) (h 
           rw (et ∙ table-kept p i k (inr (omega (arith, h .layout .index))), h .base) at eq
 
       pub clearing-room : q .start .0 + q .count ≤ 1024 * p .zones
-      clearing-room = rw read (h .within j below)
+      clearing-room = rw read (h .within .runs j below)
 
       pub clearing-more : (y : List ℕ) → y ≡ putSectors p x (q .start .0) (q .count) 0 → Clearing p b i n at y (j + 1)
       unfolding clearRuns
@@ -96,10 +97,39 @@ module _ (p : Places) (b : List ℕ) (i n at : ℕ) (x : List ℕ) (j : ℕ) (h 
         len = ap length ey ∙ kept-setBits x (p .sectortable) (q .start .0) (q .count) 0 .len ∙ h .len;
       }
 
-module _ (p : Places) (b : List ℕ) (i : ℕ) where
-  pub table-freed : (x y : List ℕ) → x ≡ clearRuns p b i (tableAt p b i) (slotsOf i (tableAt p b i)) → y ≡ erased p x i 124 → y ≡ freeTable p b i
+-- ---- its header's
+
+module _ (p : Places) (b : List ℕ) (i : ℕ) (t : List ℕ) (w : ℕ) (et : t ≡ tableAt p b i) (ew : w ≡ wordOf t) where
+  -- a table that is no parent has none
+  pub header-not : w ≢ i → b ≡ clearHeader p b i (tableAt p b i)
+  unfolding clearHeader
+  header-not ne = rw (ne-eqb (wordOf (tableAt p b i)) i (λ e. ne (ew ∙ ap wordOf et ∙ e)))
+
+  module _ (own : w ≡ i) (u : List ℕ) (q : Pointer) (eu : u ≡ tableAt p b i) (eq : q ≡ pointerAt u 58) where
+    word : wordOf (tableAt p b i) ≡ i
+    word = sym (ap wordOf et) ∙ sym ew ∙ own
+
+    pub header-room : RunsWithin p i (tableAt p b i) → q .start .0 + q .count ≤ 1024 * p .zones
+    header-room within = rw (eq, eu) (within .header word)
+
+    pub header-cleared : (y : List ℕ) → y ≡ putSectors p b (q .start .0) (q .count) 0 → y ≡ clearHeader p b i (tableAt p b i)
+    unfolding clearHeader
+    header-cleared y ey = rw (eq-eqb (wordOf (tableAt p b i)) i word) (rw (eq, eu) at ey)
+
+-- ---- a table
+
+module _ (p : Places) (b : List ℕ) (i : ℕ) (lay : Layout p (length b)) (inside : (1 ≤ i) × (i ≤ p .indexes)) (within : RunsWithin p i (tableAt p b i))
+    (x : List ℕ) (ex : x ≡ clearRuns p b i (tableAt p b i) (slotsOf i (tableAt p b i))) where
+  -- with the sectors under its pointers free the table is still as it was
+  still : tableAt p x i ≡ tableAt p b i
+  still = rw ex (table-runless p b i lay (inside .0) (inside .1) within)
+
+  pub header-within : RunsWithin p i (tableAt p x i)
+  header-within = rw still within
+
+  pub table-freed : (y z : List ℕ) → y ≡ clearHeader p x i (tableAt p x i) → z ≡ erased p y i 124 → z ≡ freeTable p b i
   unfolding freeTable
-  table-freed x y ex ey = rw ex at ey
+  table-freed y z ey ez = rw (ey, still, ex) at ez
 
 -- ---- a file's tables
 

@@ -25,7 +25,7 @@ use Rattle.files.proofs.MoveLaws.{length-exchanged}
 -- ---- a sector copied
 
 -- as many bytes laid over all
-over-all : (d s : List ℕ) → length s ≡ length d → over d 0 s ≡ s
+pub over-all : (d s : List ℕ) → length s ≡ length d → over d 0 s ≡ s
 unfolding over
 over-all d s e = ap (λ (r : List ℕ). s ++ r) (drop-of-length-le d {i = 0 + length s} (omega arith)) ∙ append-nil s
 
@@ -64,7 +64,7 @@ unfolding moved
 move-plain x d₀ d s e h l m = rw e (h ∙ over-all d₀ s (m ∙ sym l))
 
 -- a lent part that is back
-put-over : (a e : ℕ) (xs ys : List ℕ) → a ≤ e → length ys ≡ e - a → putMid a (e - a) xs ys ≡ over xs a ys
+pub put-over : (a e : ℕ) (xs ys : List ℕ) → a ≤ e → length ys ≡ e - a → putMid a (e - a) xs ys ≡ over xs a ys
 unfolding over
 put-over a e xs ys h k =
     let q : e ≡ a + length ys = omega arith in

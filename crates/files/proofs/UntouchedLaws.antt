@@ -86,7 +86,7 @@ module _ (p : Places) (b : List ℕ) (lay : Layout p (length b)) {extra : ℕ �
   pub other-places : SamePlaces (viewOf p b) w g
   other-places = follows-places (viewOf p b) w g (h .indexes) follows (lawful .r4) (lawful .r5) (lawful .r6) (lay .few) parent
 
--- ---- a file's parent changes in its bytes 28 to 57 only, other tables not at all: dates, length and attribute
+-- ---- a file's parent changes in its bytes 28 to 63 only, other tables not at all: dates, length, attribute and header pointer
 
 -- numbers in bytes that stay
 u16-same : (t t' : List ℕ) (o : ℕ) → ((j : ℕ) → o ≤ j → j < o + 2 → getD t' j 0 ≡ getD t j 0) → u16At t' o ≡ u16At t o
@@ -98,7 +98,7 @@ unfolding u32At
 u32-same t t' o h = rw (h o (omega arith) (omega arith), h (o + 1) (omega arith) (omega arith), h (o + 2) (omega arith) (omega arith), h (o + 3) (omega arith) (omega arith))
 
 module _ (v v' : View) (f : ℕ) (same : v' .indexes ≡ v .indexes) (parent : Parent v f) (there : (j : ℕ) → 1 ≤ j → j ≤ v .indexes → j ≢ f → v' .table j ≡ v .table j)
-    (low : (o : ℕ) → o < 28 → getD (v' .table f) o 0 ≡ getD (v .table f) o 0) (high : (o : ℕ) → 58 ≤ o → getD (v' .table f) o 0 ≡ getD (v .table f) o 0) where
+    (low : (o : ℕ) → o < 28 → getD (v' .table f) o 0 ≡ getD (v .table f) o 0) (high : (o : ℕ) → 64 ≤ o → getD (v' .table f) o 0 ≡ getD (v .table f) o 0) where
   word : wordOf (v' .table f) ≡ wordOf (v .table f)
   word = u32-same (v .table f) (v' .table f) 0 (λ j lo hi. low j (omega arith))
 
@@ -126,7 +126,7 @@ module _ (v v' : View) (f : ℕ) (same : v' .indexes ≡ v .indexes) (parent : P
 
 module _ (p : Places) (b : List ℕ) (lay : Layout p (length b)) {extra : ℕ → ℕ} (lawful : LawfulWith extra p b) (b' : List ℕ) (f : ℕ) (parent : Parent (viewOf p b) f)
     (there : (j : ℕ) → 1 ≤ j → j ≤ p .indexes → j ≢ f → tableAt p b' j ≡ tableAt p b j)
-    (here : (o : ℕ) → (o < 28) → getD (tableAt p b' f) o 0 ≡ getD (tableAt p b f) o 0) (here' : (o : ℕ) → 58 ≤ o → getD (tableAt p b' f) o 0 ≡ getD (tableAt p b f) o 0) where
+    (here : (o : ℕ) → (o < 28) → getD (tableAt p b' f) o 0 ≡ getD (tableAt p b f) o 0) (here' : (o : ℕ) → 64 ≤ o → getD (tableAt p b' f) o 0 ≡ getD (tableAt p b f) o 0) where
   restated-follows : FileFollows (viewOf p b) (viewOf p b') f
   restated-follows = stated-follows (viewOf p b) (viewOf p b') f refl parent there here here'
 

@@ -40,7 +40,7 @@ pub record Freed (v v' : View) (f : ℕ) : Type 0 where
   pub directory : v' .directory ≡ v .directory
   pub flag : v' .flag ≡ v .flag
 
--- the entry of zone z is n clear blocks short; no other zone than one of type 3-8 is short of any
+-- the entry of zone z is n clear blocks short; no other zone than one of type 2-8 is short of any
 pub record Short (v : View) (z n : ℕ) : Type 0 where
   pub typed : ZoneType (v .zone z .ztype) → Blocks (v .bit) (firstOf z) (blockOf (v .zone z .ztype)) (v .zone z .free + n)
   pub other : (ZoneType (v .zone z .ztype) → ⊥) → n ≡ 0

@@ -24,9 +24,12 @@ moved x s = cond x (exchanged s) s
 abbrev pub bodyPlace : ℕ → ℕ
 bodyPlace s = 1024 * (s - 1024)
 
--- the 1,024 bytes of sector s, as they lie in the body
+-- the 1,024 bytes of sector s, as they lie in the body, and those of the n sectors from s on
 abbrev pub sectorContent : List ℕ → ℕ → List ℕ
 sectorContent body s = take 1024 (drop (bodyPlace s) body)
+
+abbrev pub sectorsContent : List ℕ → ℕ → ℕ → List ℕ
+sectorsContent body s n = take (1024 * n) (drop (bodyPlace s) body)
 
 -- the n-th 1,024 bytes of a buffer
 abbrev pub bufferSector : List ℕ → ℕ → List ℕ

@@ -1,4 +1,5 @@
 -- "Actual delete: blocks freed, a zone left empty becomes (0,0,0), and the free chain becomes the file's tables in order, then the old chain."
+-- Where the file has a header, it "frees the run, whatever stood there" (W1).
 use mathlib.Core.Bool.{cond}
 use mathlib.Core.List.{List, [], _∷_}
 use Prim.Native.Nat.{ℕ, zero, suc, _+_, _-_, _*_}
@@ -9,7 +10,7 @@ use Rattle.tables.specs.declared.places.Places.{Places}
 use Rattle.tables.specs.declared.zone.ZoneEntry.{ZoneEntry}
 use Rattle.tables.specs.Kinds.{firstOf}
 use Rattle.tables.specs.Blocks.{blockOf, perZone}
-use Rattle.tables.specs.Indexes.{tableAt, erased, putLink, slotsOf, startOf, countOf, fileOf}
+use Rattle.tables.specs.Indexes.{tableAt, erased, putLink, wordOf, slotsOf, startOf, countOf, headerStart, headerCount, fileOf}
 use Rattle.tables.specs.Sector1.{deletedOf, putDeleted, freeOf, putFree, putLatest, firstFreeOf, putFirstFree}
 use Rattle.tables.specs.Sectors.{putSectors}
 use Rattle.tables.specs.Views.{View, viewOf, next, onlyIf, tally, claimsOf}
@@ -37,10 +38,14 @@ unfoldable pub clearRuns : Places → List ℕ → ℕ → List ℕ → ℕ → 
 clearRuns p b i t zero = b
 clearRuns p b i t (suc n) = putSectors p (clearRuns p b i t n) (startOf i t n) (countOf i t n) 0
 
+-- the sectors under the header pointer of table i, which is a parent, are free
+unfoldable pub clearHeader : Places → List ℕ → ℕ → List ℕ → List ℕ
+clearHeader p b i t = cond (eqb (wordOf t) i) (putSectors p b (headerStart t) (headerCount t) 0) b
+
 -- table i is free, and so are its sectors: "A free index is all zeros but 124-127", its link, which stays
 unfoldable pub freeTable : Places → List ℕ → ℕ → List ℕ
-unfolding clearRuns
-freeTable p b i = erased p (clearRuns p b i (tableAt p b i) (slotsOf i (tableAt p b i))) i 124
+unfolding clearRuns clearHeader
+freeTable p b i = let t = tableAt p b i in erased p (clearHeader p (clearRuns p b i t (slotsOf i t)) i t) i 124
 
 -- so are the tables of a list
 unfoldable pub freeTables : Places → List ℕ → List ℕ → List ℕ
@@ -61,7 +66,7 @@ freedFile p b f date =
 
 -- ---- "blocks freed, a zone left empty becomes (0,0,0)"
 
--- how many claims of file f's tables lie over sector s: its pointers
+-- how many claims of file f's tables lie over sector s: its pointers, and its header pointer
 unfoldable pub gone : View → ℕ → ℕ → ℕ
 gone v f s = tally v (λ i t. onlyIf (eqb (fileOf i t) f) (claimsOf i t s))
 

@@ -1,10 +1,12 @@
-// A file given back: its sectors and its tables are free.
+// A file given back: its sectors, its header's and its tables are free.
 use crate::zones::recount_zones;
 use allocation::last::last_table;
+use tables::index::HEADER;
 use tables::index::LINK;
 use tables::index::POINTER;
 use tables::index::base;
 use tables::index::erase;
+use tables::index::first_word;
 use tables::index::link;
 use tables::index::pointer_at;
 use tables::index::put_link;
@@ -22,7 +24,7 @@ ghost use Rattle.tables.specs.Lawful.{Lawful};
 ghost use Rattle.tables.specs.Places.{Layout};
 ghost use Rattle.tables.specs.Sector1.{deletedOf, freeOf};
 ghost use Rattle.tables.specs.Views.{viewOf, Parent};
-ghost use Rattle.files.specs.Release.{chainOf, fileTables, clearRuns, freeTable, freeTables, putFreed, freedFile, released};
+ghost use Rattle.files.specs.Release.{chainOf, fileTables, clearRuns, clearHeader, freeTable, freeTables, putFreed, freedFile, released};
 ghost use Rattle.files.specs.Asked.{RunsWithin};
 
 // Frees the sectors under the pointers of table i.
@@ -42,6 +44,20 @@ fn clear_runs(b: &mut [u8], p: Places, i: Index)
     }
 }
 
+// Frees the sectors under the header pointer of table i, if it is a parent.
+fn clear_header(b: &mut [u8], p: Places, i: Index)
+    requires { ⌜ Layout p (length (now b)) ⌝ }
+    requires { ⌜ (1 ≤ i .0) × (i .0 ≤ p .indexes) ⌝ }
+    requires { ⌜ RunsWithin p (i .0) (tableAt p (now b) (i .0)) ⌝ }
+    ensures { λ _. ⌜ now (b .exit) ≡ clearHeader p (now (b .entry)) (i .0) (tableAt p (now (b .entry)) (i .0)) ⌝ }
+{
+    if first_word(table(b, p, i)) != i.0 {
+        return;
+    }
+    let q = pointer_at(table(b, p, i), HEADER);
+    put_sectors(b, p, q.start, q.count, 0);
+}
+
 // Frees table i and its sectors; its link stays.
 fn free_table(b: &mut [u8], p: Places, i: Index)
     requires { ⌜ Layout p (length (now b)) ⌝ }
@@ -50,6 +66,7 @@ fn free_table(b: &mut [u8], p: Places, i: Index)
     ensures { λ _. ⌜ now (b .exit) ≡ freeTable p (now (b .entry)) (i .0) ⌝ }
 {
     clear_runs(b, p, i);
+    clear_header(b, p, i);
     erase(b, p, i, LINK);
 }
 

@@ -38,7 +38,7 @@ fn clear_blocks(b: &[u8], p: Places, z: Zone, t: u32) -> u32
 }
 
 // A zone's entry with n blocks freed.
-fn recounted(e: ZoneEntry, n: u32) -> ZoneEntry
+pub fn recounted(e: ZoneEntry, n: u32) -> ZoneEntry
     requires { ⌜ ZoneType (e .ztype) ⌝ }
     requires { ⌜ e .free + n ≤ 1024 ⌝ }
     ensures { λ r. ⌜ r ≡ recounted e n ⌝ }
@@ -58,7 +58,7 @@ fn recounted(e: ZoneEntry, n: u32) -> ZoneEntry
     }
 }
 
-// Zone z's entry, if it is of type 3-8.
+// Zone z's entry, if it is of type 2-8.
 fn recount_zone(b: &mut [u8], p: Places, z: Zone)
     requires { ⌜ Layout p (length (now b)) ⌝ }
     requires { ⌜ (2 ≤ z .0) × (z .0 < p .zones) ⌝ }

@@ -1,4 +1,4 @@
--- A file that two volumes have alike: show and read answer the same of it.
+-- A file that two volumes have alike: show, show header and read answer the same of it.
 use mathlib.Core.Path.{_≡_, refl, sym, ap, ap₂, _∙_}
 use mathlib.Core.Logic.{inl, inr, _≢_}
 use mathlib.Core.Bool.{Bool}
@@ -9,7 +9,7 @@ use lib.ListN.{length}
 use Rattle.field.specs.Parts.{over}
 use Rattle.tables.specs.declared.places.Places.{Places}
 use Rattle.tables.specs.Gates.{Test, asks, Gate}
-use Rattle.tables.specs.Indexes.{wordOf, lengthOf, attributeOf, deletedBit}
+use Rattle.tables.specs.Indexes.{wordOf, lengthOf, attributeOf, deletedBit, headerStart, headerCount}
 use Rattle.tables.specs.Places.{placesOf}
 use Rattle.tables.specs.Rules.R1.{ceil}
 use Rattle.tables.specs.Rules.R8.{fileSectors}
@@ -22,19 +22,21 @@ use Rattle.files.proofs.UntouchedLaws.{other-table, other-parent, other-sectors
 use Rattle.requests.specs.declared.amount.Amount.{Amount}
 use Rattle.requests.specs.declared.answer.Answer.{Answer}
 use Rattle.requests.specs.Answers.{after, numberOf, answerOf, useTests, argumentTests}
-use Rattle.requests.specs.Body.{bodyTest}
+use Rattle.requests.specs.Body.{BodySized, bodyTest}
 use Rattle.requests.specs.Amounts.{amountValue}
+use Rattle.requests.specs.Header.{showHeaderTests, HeaderShown}
 use Rattle.requests.specs.Locate.{kthOf}
 use Rattle.requests.specs.Named.{fileBytes, stateTests, usableTests}
 use Rattle.requests.specs.Read.{readTests, readAmount, readOut, ReadOut}
 use Rattle.requests.specs.Moving.{endOf}
 use Rattle.requests.specs.Show.{showTests, bytesOf, Shown}
-use Rattle.tables.proofs.GateLaws.{zero-good}
-use Rattle.histories.specs.History.{Volume, seen, LawfulVolume, write, Does, bytesAt}
-use Rattle.histories.proofs.StepFrame.{step-places, step-lawful}
+use Rattle.tables.proofs.GateLaws.{zero-good, gate-rest, gate-head, gate-front}
+use Rattle.histories.specs.History.{Volume, seen, LawfulVolume, write, Does, bytesAt, headerOf}
+use Rattle.histories.proofs.StepFrame.{step-places, step-lawful, step-other}
 use Rattle.histories.proofs.StepWrite.{wrote-steady}
 use Rattle.histories.proofs.HistoryLaws.{other-bytes}
 use Rattle.requests.proofs.LocateLaws.{show-asks}
+use Rattle.requests.proofs.NamedLaws.{usable-active}
 use Rattle.requests.proofs.ReadLaws.{read-parent, read-moves}
 
 -- ---- tests that say the same
@@ -77,6 +79,7 @@ pub record SameFile (v w : Volume) (g : ℕ) : Type 0 where
   pub table : Parent (seen v) g → fileBytes (w .books) g ≡ fileBytes (v .books) g
   pub sectors : Parent (seen v) g → fileSectors (seen w) g ≡ fileSectors (seen v) g
   pub data' : Parent (seen v) g → (k : ℕ) → k < fileSectors (seen v) g → bytesAt w g k ≡ bytesAt v g k
+  pub header : Parent (seen v) g → headerOf w g ≡ headerOf v g
 
 module _ (v w : Volume) (g : ℕ) (a : SameFile v w g) where
   -- 1 to 5
@@ -109,7 +112,7 @@ module _ (v w : Volume) (g : ℕ) (a : SameFile v w g) where
   unfolding showTests
   show-number k r s = same-number _ _ r s (same-use _ _ (same-body 8 _ _ (λ parent. same-last 14 _ _ (λ l. omega (arith, a .sectors parent)) (λ l. omega (arith, a .sectors parent)))))
 
-  show-bytes : (k n : ℕ) → Gate (showTests (v .books) (v .body) g k) n → bytesOf n (v .body) (kthOf (v .books) g k) ≡ bytesOf n (w .body) (kthOf (w .books) g k)
+  show-bytes : (k n : ℕ) → Gate (showTests (v .books) (v .body) g k) n → bytesOf n (v .body) (kthOf (v .books) g k) 1 ≡ bytesOf n (w .body) (kthOf (w .books) g k) 1
   show-bytes k zero gate =
       let q = show-asks (v .books) (v .body) g k 0 gate refl (placesOf (v .books)) refl .1 in
       sym (a .data' (q .0) k (q .1))
@@ -117,7 +120,31 @@ module _ (v w : Volume) (g : ℕ) (a : SameFile v w g) where
 
   pub shows-same : (k : ℕ) (y z : List ℕ) → Shown (v .books) (v .body) g k y → Shown (w .books) (w .body) g k z → y ≡ z
   shows-same k y z old new =
-      old .bytes ∙ show-bytes k (old .number) (old .gate) ∙ ap (λ (n : ℕ). bytesOf n (w .body) (kthOf (w .books) g k)) (show-number k _ _ (old .gate) (new .gate)) ∙ sym (new .bytes)
+      old .bytes ∙ show-bytes k (old .number) (old .gate) ∙ ap (λ (n : ℕ). bytesOf n (w .body) (kthOf (w .books) g k) 1) (show-number k _ _ (old .gate) (new .gate)) ∙ sym (new .bytes)
+
+  -- ---- show header
+
+  header-number : (r s : ℕ) → Gate (showHeaderTests (v .books) (v .body) g) r → Gate (showHeaderTests (w .books) (w .body) g) s → r ≡ s
+  unfolding showHeaderTests
+  header-number r s =
+      same-number _ _ r s (same-use _ _ (same-body 8 _ _ (λ parent. same-last 14 _ _
+      (λ l. omega (arith, ap headerCount (a .table parent))) (λ l. omega (arith, ap headerCount (a .table parent))))))
+
+  header-parent : Gate (showHeaderTests (v .books) (v .body) g) 0 → Parent (seen v) g
+  unfolding showHeaderTests
+  header-parent gate =
+      let rest = gate-head 15 (BodySized (v .books) (v .body)) _ (gate-rest (useTests (v .books)) _ gate) .1 in
+      usable-active 8 (v .books) g (gate-front (usableTests 8 (v .books) g) _ rest) .0
+
+  header-bytes : (n : ℕ) → Gate (showHeaderTests (v .books) (v .body) g) n
+      → bytesOf n (v .body) (headerStart (fileBytes (v .books) g)) (headerCount (fileBytes (v .books) g)) ≡ bytesOf n (w .body) (headerStart (fileBytes (w .books) g)) (headerCount (fileBytes (w .books) g))
+  header-bytes zero gate = sym (a .header (header-parent gate))
+  header-bytes (suc n) gate = refl
+
+  pub headers-same : (y z : List ℕ) → HeaderShown (v .books) (v .body) g y → HeaderShown (w .books) (w .body) g z → y ≡ z
+  headers-same y z old new =
+      old .bytes ∙ header-bytes (old .number) (old .gate)
+      ∙ ap (λ (n : ℕ). bytesOf n (w .body) (headerStart (fileBytes (w .books) g)) (headerCount (fileBytes (w .books) g))) (header-number _ _ (old .gate) (new .gate)) ∙ sym (new .bytes)
 
   -- ---- read
 
@@ -196,4 +223,5 @@ module _ (v w : Volume) (lawful : LawfulVolume v) (f : ℕ) (position long : Amo
         table = λ h. other-table (placesOf (v .books)) (v .books) (old .layout) (old .lawful) (seen w) f u g h other;
         sectors = λ h. other-sectors (placesOf (v .books)) (v .books) (old .layout) (old .lawful) (seen w) f u g h other;
         data' = λ h. other-bytes v w lawful q d g h other;
+        header = λ h. step-other v w lawful q d g h (λ e. other (sym e));
       }

@@ -13,8 +13,8 @@ use Rattle.files.specs.Moves.{sectorContent}
 use Rattle.files.specs.Spots.{kthSector}
 use Rattle.files.proofs.UntouchedLaws.{other-parent, other-places}
 use Rattle.tables.proofs.GateLaws.{zero-good}
-use Rattle.histories.specs.History.{Volume, seen, LawfulVolume, Request, Does, RequestStep, History, none, then, namedBy, Belongs, bytesAt, Deletes, SparedIn}
-use Rattle.histories.proofs.StepFrame.{step-lawful, step-untouched, step-stands, step-bytes, step-own}
+use Rattle.histories.specs.History.{Volume, seen, LawfulVolume, Request, Does, RequestStep, History, none, then, namedBy, Belongs, bytesAt, Deletes, SparedIn, SameHeader, HeaderLeftIn}
+use Rattle.histories.proofs.StepFrame.{step-lawful, step-untouched, step-stands, step-bytes, step-own, step-header}
 
 -- ---- steps
 
@@ -53,6 +53,18 @@ spared-stays v w start f k n here (then {v = x} h s) spared =
     let lawful = lawful-after v x start h in
     let there = step-place x w lawful s f k n (before .0) (spared .1 .kept) in
     (there, step-bytes x w lawful (s .request) (s .does) f k n there (spared .1 .unwritten) ∙ before .1)
+
+-- a header that no step replaces, of a file that none deletes, is what it was but for the id
+pub header-left : (v w : Volume) → LawfulVolume v → (f : ℕ) → Parent (seen v) f → (h : History v w) → HeaderLeftIn h f → Parent (seen w) f × SameHeader v w f
+header-left v w start f parent (none e) left = rw e (parent, record { place = record { start = refl; count = refl }; bytes = refl })
+header-left v w start f parent (then {v = x} h s) left =
+    let before = header-left v x start f parent h (left .0) in
+    let lawful = lawful-after v x start h in
+    let old = before .1 in
+    let new = step-header x w lawful (s .request) (s .does) f (before .0) (left .1 .kept) (left .1 .unplaced) in (
+      step-stands x w lawful (s .request) (s .does) f (before .0) (left .1 .kept) .0,
+      record { place = record { start = new .place .start ∙ old .place .start; count = new .place .count ∙ old .place .count }; bytes = new .bytes ∙ old .bytes },
+    )
 
 -- ---- the free chain meets different tables
 

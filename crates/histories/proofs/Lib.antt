@@ -1,7 +1,10 @@
+pub mod HeaderBody
 pub mod StepLeaves
 pub mod StepState
 pub mod StepGrow
 pub mod StepWrite
+pub mod StepDelete
+pub mod StepHeader
 pub mod StepEffects
 pub mod StepFrame
 pub mod HistoryLaws

@@ -1,4 +1,4 @@
--- What every step keeps: a lawful volume, and of files their tables, places and bytes.
+-- What every step keeps: a lawful volume, and of files their tables, places, bytes and headers.
 use mathlib.Core.Path.{_≡_, sym, ap, subst, _∙_}
 use mathlib.Core.Logic.{_≢_}
 use mathlib.Core.List.{List}
@@ -9,12 +9,12 @@ use Rattle.tables.specs.Views.{viewOf, Parent}
 use Rattle.files.specs.Moves.{sectorContent}
 use Rattle.files.specs.Unchanged.{Untouched, SamePlaces}
 use Rattle.tables.proofs.GateLaws.{zero-good, good-zero}
-use Rattle.histories.specs.History.{Volume, seen, LawfulVolume, Request, Does, namedBy, Belongs, PutsIn, Deletes}
+use Rattle.histories.specs.History.{Volume, seen, LawfulVolume, Request, Does, namedBy, Belongs, headerOf, PutsIn, Deletes, PutsHeaderIn, SameHeader}
 use Rattle.histories.proofs.StepLeaves.{Leaves}
 use Rattle.histories.proofs.StepEffects.{Effect, step-effect}
 
 module _ (v v' : Volume) (lawful : LawfulVolume v) (q : Request) (d : Does q v v') where
-  effect : Effect v v' (namedBy q) (Deletes v v' q d) (PutsIn v v' q d)
+  effect : Effect v v' (namedBy q) (Deletes v v' q d) (PutsIn v v' q d) (PutsHeaderIn v v' q d)
   effect = step-effect q v v' (zero-good (v .books) (lawful .lawful)) d
 
   leaves : Leaves (v .books) (v' .books) (namedBy q) (Deletes v v' q d)
@@ -53,3 +53,15 @@ module _ (v v' : Volume) (lawful : LawfulVolume v) (q : Request) (d : Does q v v
   -- of the files that stand, only the named one is written
   pub step-own : (f k : ℕ) (bytes : List ℕ) → PutsIn v v' q d f k bytes → Parent (seen v) f → namedBy q ≡ f
   step-own = effect .own
+
+  -- a header stays, but for the id, unless the file is actually deleted or gets another
+  pub step-header : (f : ℕ) → Parent (seen v) f → (Deletes v v' q d f → ⊥) → ((bytes : List ℕ) → PutsHeaderIn v v' q d f bytes → ⊥) → SameHeader v v' f
+  step-header = effect .header
+
+  -- of a file that is not named the id stays too
+  pub step-other : (f : ℕ) → Parent (seen v) f → namedBy q ≢ f → headerOf v' f ≡ headerOf v f
+  step-other = effect .other
+
+  -- and where it gets another, it has these bytes
+  pub step-headed : (f : ℕ) (bytes : List ℕ) → PutsHeaderIn v v' q d f bytes → Parent (seen v') f × (headerOf v' f ≡ bytes)
+  step-headed = effect .headed

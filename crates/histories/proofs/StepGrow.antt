@@ -1,4 +1,4 @@
--- Creates and grow leave the tables of other files, and a file that grows has its sectors where it had them.
+-- Creates and grow leave the tables of other files, and a file that grows has its sectors and its header where it had them.
 use mathlib.Core.Path.{_≡_, refl}
 use mathlib.Core.List.{List}
 use Prim.Native.Nat.{ℕ}
@@ -16,7 +16,8 @@ use Rattle.tables.specs.Views.{viewOf, Parent}
 use Rattle.allocation.specs.NewLawful.{NewLawful}
 use Rattle.allocation.specs.NewTables.{New}
 use Rattle.allocation.specs.MadeFiles.{created}
-use Rattle.files.specs.Unchanged.{Untouched, SamePlaces}
+use Rattle.allocation.proofs.GrownLawful.{grown-header-start, grown-header-count}
+use Rattle.files.specs.Unchanged.{Untouched, SamePlaces, HeaderKept}
 use Rattle.files.proofs.UntouchedLaws.{untouched-refl, places-refl}
 use Rattle.files.proofs.GrownFrame.{grown-untouched, grown-places, created-untouched, created-new}
 use Rattle.requests.specs.declared.amount.Amount.{Amount}
@@ -30,7 +31,7 @@ use Rattle.requests.proofs.CreateKeeps.{creates-asks, fixed-lawful, variable-la
 use Rattle.requests.proofs.GrowLaws.{grow-parent, grow-room, grow-date}
 use Rattle.requests.proofs.LongerLaws.{lack-provided}
 use Rattle.requests.proofs.WriteLaws.{grown-is}
-use Rattle.histories.proofs.StepLeaves.{Leaves, leaves-at, leaves-new, leaves-done}
+use Rattle.histories.proofs.StepLeaves.{Leaves, leaves-at, leaves-new, leaves-done, header-refl, header-done}
 
 -- ---- a new file
 
@@ -53,20 +54,42 @@ module _ (b : List ℕ) (g : Good b (placesOf b)) (gone : ℕ → Type 0) where
 
 module _ (b : List ℕ) (g : Good b (placesOf b)) (id long : ℕ) (date : List ℕ) (parent : Parent (viewOf (placesOf b) b) id) (room : Gate (lackTests b id long) 0) (six : length date ≡ 6) where
   pub longer-frame : Untouched (viewOf (placesOf b) b) (viewOf (placesOf b) (grownTo b id long date)) id × SamePlaces (viewOf (placesOf b) b) (viewOf (placesOf b) (grownTo b id long date)) id
+      × HeaderKept (viewOf (placesOf b) b) (viewOf (placesOf b) (grownTo b id long date)) id
   unfolding grownTo
   longer-frame =
       let p = placesOf b in
+      let counts = growCounts b id long in
       elim (decLt (lengthOf (fileBytes b id)) long) [
         | yes l ↦ (let provided = lack-provided b id long g room l in
-            rw (lt-ltb (lengthOf (fileBytes b id)) long l) (grown-untouched p b id (growCounts b id long) long date provided parent six, grown-places p b id (growCounts b id long) long date provided parent six))
-        | no nl ↦ rw (le-ltb (lengthOf (fileBytes b id)) long (omega arith)) (untouched-refl (viewOf p b) id, places-refl (viewOf p b) id)
+            rw (lt-ltb (lengthOf (fileBytes b id)) long l) (
+              grown-untouched p b id counts long date provided parent six,
+              grown-places p b id counts long date provided parent six,
+              record { start = grown-header-start p b id counts provided parent long date six; count = grown-header-count p b id counts provided parent long date six },
+            ))
+        | no nl ↦ rw (le-ltb (lengthOf (fileBytes b id)) long (omega arith)) (untouched-refl (viewOf p b) id, places-refl (viewOf p b) id, header-refl (viewOf p b) id)
       ]
 
-pub grew-leaves : (b : List ℕ) (g : Good b (placesOf b)) (gone : ℕ → Type 0) (id : ℕ) (long : Amount) (date : List ℕ) (r : ℕ) (b' : List ℕ) → Grew b id long date r b' → Leaves b b' id gone
-grew-leaves b g gone id long date r b' h =
-    leaves-done b g id gone r (grownTo b id (amountValue long) date) b' (h .books) (λ e.
-    (let parent = grow-parent b id long date r (h .number) e in
-    let room = grow-room b id long date r (h .number) e (amountValue long) refl in
-    let six = grow-date b id long date r (h .number) e in
-    let frame = longer-frame b g id (amountValue long) date parent room six in
-    leaves-at b g id gone (grownTo b id (amountValue long) date) id (frame .0) (λ h stands ne. ne) (λ stands kept. (grown-is b id (amountValue long) date g parent room six .parent, frame .1))))
+module _ (b : List ℕ) (g : Good b (placesOf b)) (id : ℕ) (long : Amount) (date : List ℕ) (r : ℕ) (b' : List ℕ) (h : Grew b id long date r b') where
+  abbrev new : List ℕ
+  new = grownTo b id (amountValue long) date
+
+  module _ (e : r ≡ 0) where
+    parent : Parent (viewOf (placesOf b) b) id
+    parent = grow-parent b id long date r (h .number) e
+
+    room : Gate (lackTests b id (amountValue long)) 0
+    room = grow-room b id long date r (h .number) e (amountValue long) refl
+
+    six : length date ≡ 6
+    six = grow-date b id long date r (h .number) e
+
+    frame : Untouched (viewOf (placesOf b) b) (viewOf (placesOf b) new) id × SamePlaces (viewOf (placesOf b) b) (viewOf (placesOf b) new) id
+        × HeaderKept (viewOf (placesOf b) b) (viewOf (placesOf b) new) id
+    frame = longer-frame b g id (amountValue long) date parent room six
+
+  pub grew-leaves : (gone : ℕ → Type 0) → Leaves b b' id gone
+  grew-leaves gone = leaves-done b g id gone r new b' (h .books) (λ e.
+      leaves-at b g id gone new id (frame e .0) (λ h stands ne. ne) (λ stands kept. (grown-is b id (amountValue long) date g (parent e) (room e) (six e) .parent, frame e .1)))
+
+  pub grew-header : HeaderKept (viewOf (placesOf b) b) (viewOf (placesOf b) b') id
+  grew-header = header-done b id r new b' (h .books) (λ e. frame e .2)

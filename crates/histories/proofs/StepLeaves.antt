@@ -1,19 +1,25 @@
--- What a request leaves of the files: the record, how it is got, and mount, dismount and actual delete.
-use mathlib.Core.Path.{_≡_, refl, sym}
+-- What a request leaves of the files: the record, how it is got, and mount, dismount and actual delete; so of header pointers, and which files
+-- stood before.
+use mathlib.Core.Path.{_≡_, refl, sym, ap, _∙_}
 use mathlib.Core.Logic.{_≢_, inr}
 use mathlib.Core.List.{List}
 use Prim.Native.Nat.{ℕ, zero, suc}
 use native.Mathlib.Decide.{ℕ-discrete}
 use native.Mathlib.Omega.{arith}
+use lib.ListN.{length}
 use Rattle.tables.specs.declared.places.Places.{Places}
 use Rattle.tables.specs.Books.{Good}
-use Rattle.tables.specs.Indexes.{tableAt}
+use Rattle.tables.specs.Indexes.{tableAt, wordOf, headerStart, headerCount}
 use Rattle.tables.specs.Places.{placesOf}
 use Rattle.tables.specs.Views.{View, viewOf, Parent}
 use Rattle.tables.proofs.FrameLaws.{table-kept}
-use Rattle.files.specs.Release.{released}
-use Rattle.files.specs.Unchanged.{Untouched, SamePlaces}
-use Rattle.files.proofs.UntouchedLaws.{other-parent, other-places, released-untouched}
+use Rattle.allocation.proofs.ChangeLaws.{parent-file}
+use Rattle.files.specs.Release.{released, freedFile, freedBlocks}
+use Rattle.files.specs.Unchanged.{Untouched, SamePlaces, HeaderKept}
+use Rattle.files.proofs.FreedTables.{freed-word}
+use Rattle.files.proofs.FreedView.{freed-view, freed-quiet}
+use Rattle.files.proofs.RecountView.{recount-view}
+use Rattle.files.proofs.UntouchedLaws.{other-table, other-parent, other-places, places-refl, released-untouched}
 use Rattle.requests.specs.Answers.{after}
 use Rattle.requests.specs.Delete.{Deleted}
 use Rattle.tables.specs.Sector1.{putFlag}
@@ -27,6 +33,22 @@ pub record Leaves (b b' : List ℕ) (f : ℕ) (gone : ℕ → Type 0) : Type 0 w
   pub untouched : Untouched (viewOf (placesOf b) b) (viewOf (placesOf b) b') changed
   pub only : (h : ℕ) → Parent (viewOf (placesOf b) b) h → h ≢ f → h ≢ changed
   pub stands : (h : ℕ) → Parent (viewOf (placesOf b) b) h → (gone h → ⊥) → Parent (viewOf (placesOf b) b') h × SamePlaces (viewOf (placesOf b) b) (viewOf (placesOf b) b') h
+
+-- ---- header pointers
+
+pub header-refl : (v : View) (f : ℕ) → HeaderKept v v f
+header-refl v f = record { start = refl; count = refl }
+
+pub header-trans : (u v w : View) (f : ℕ) → HeaderKept u v f → HeaderKept v w f → HeaderKept u w f
+header-trans u v w f h k = record { start = k .start ∙ h .start; count = k .count ∙ h .count }
+
+-- a refusal leaves them
+pub header-done : (b : List ℕ) (f r : ℕ) (new b' : List ℕ) → b' ≡ after r new b → (r ≡ 0 → HeaderKept (viewOf (placesOf b) b) (viewOf (placesOf b) new) f)
+    → HeaderKept (viewOf (placesOf b) b) (viewOf (placesOf b) b') f
+header-done b f zero new b' e h = rw e (h refl)
+header-done b f (suc k) new b' e h = rw e (header-refl (viewOf (placesOf b) b) f)
+
+-- ---- the record
 
 module _ (b : List ℕ) (g : Good b (placesOf b)) (f : ℕ) (gone : ℕ → Type 0) where
   abbrev p : Places
@@ -63,6 +85,15 @@ module _ (b : List ℕ) (g : Good b (placesOf b)) (f : ℕ) (gone : ℕ → Type
   leaves-done zero new b' e h = rw e (h refl)
   leaves-done (suc k) new b' e h = leaves-same b' e
 
+  -- files that are not named have their header pointers, and so has every file if the named one has
+  pub other-pointer : (b' : List ℕ) → Leaves b b' f gone → (h : ℕ) → Parent v h → h ≢ f → HeaderKept v (viewOf p b') h
+  other-pointer b' l h parent ne =
+      let same = other-table p b (g .layout) (g .lawful) (viewOf p b') (l .changed) (l .untouched) h parent (l .only h parent ne) in
+      record { start = ap headerStart same; count = ap headerCount same }
+
+  pub every-pointer : (b' : List ℕ) → Leaves b b' f gone → (Parent v f → (gone f → ⊥) → HeaderKept v (viewOf p b') f) → (h : ℕ) → Parent v h → (gone h → ⊥) → HeaderKept v (viewOf p b') h
+  every-pointer b' l own h parent kept = elim (ℕ-discrete h f) [ yes e ↦ rw e (own (rw e at parent) (rw e at kept)) | no ne ↦ other-pointer b' l h parent ne ]
+
   flag-leaves : (n : ℕ) → Leaves b (putFlag b n) f gone
   flag-leaves n = leaves-tables (putFlag b n) (λ j. table-kept p j (kept-flag b n) (inr (omega (arith, g .layout))))
 
@@ -72,10 +103,63 @@ module _ (b : List ℕ) (g : Good b (placesOf b)) (f : ℕ) (gone : ℕ → Type
   pub dismounted-leaves : (r : ℕ) (b' : List ℕ) → Dismounted b r b' → Leaves b b' f gone
   dismounted-leaves r b' h = leaves-done r (putFlag b 0) b' (h .books) (λ e. flag-leaves 0)
 
--- the file that is actually deleted is gone
-pub deleted-leaves : (b : List ℕ) (g : Good b (placesOf b)) (id : ℕ) (date : List ℕ) (r : ℕ) (b' : List ℕ) → Deleted b id date r b' → Leaves b b' id (λ f. (id ≡ f) × (r ≡ 0))
-deleted-leaves b g id date r b' h =
-    leaves-done b g id (λ f. (id ≡ f) × (r ≡ 0)) r (released (placesOf b) b id date) b' (h .books) (λ e.
-    (let asked = recover-asks b id date r (h .number) e (placesOf b) refl in
-    leaves-at b g id (λ f. (id ≡ f) × (r ≡ 0)) (released (placesOf b) b id date) id
-    (released-untouched (placesOf b) b (g .layout) (g .lawful) id (asked .1 .0) date (asked .1 .1 .1)) (λ h parent ne. ne) (λ parent kept. absurd (kept (refl, e)))))
+-- ---- which files stood before
+
+-- a file of b' is one of b, its sectors at their places, if the changed one is
+pub stood : (p : Places) (b b' : List ℕ) → Good b' p → (x : ℕ) → Untouched (viewOf p b) (viewOf p b') x
+    → (Parent (viewOf p b') x → Parent (viewOf p b) x × SamePlaces (viewOf p b') (viewOf p b) x)
+    → (h : ℕ) → Parent (viewOf p b') h → Parent (viewOf p b) h × SamePlaces (viewOf p b') (viewOf p b) h
+stood p b b' g x u own h parent = elim (ℕ-discrete h x) [
+  | yes e ↦ rw e (own (rw e at parent))
+  | no ne ↦ (other-parent p b' (g .layout) (g .lawful) (viewOf p b) x back h parent ne, other-places p b' (g .layout) (g .lawful) (viewOf p b) x back h parent ne)
+]
+  where
+    back : Untouched (viewOf p b') (viewOf p b) x
+    back = record { indexes = refl; was = λ j lo hi nz nf. sym (u .now j lo hi nz nf); now = λ j lo hi nz nf. sym (u .was j lo hi nz nf) }
+
+-- a refusal leaves them
+pub stood-done : (b : List ℕ) (r : ℕ) (new b' : List ℕ) → b' ≡ after r new b
+    → (r ≡ 0 → (h : ℕ) → Parent (viewOf (placesOf b) b') h → Parent (viewOf (placesOf b) b) h × SamePlaces (viewOf (placesOf b) b') (viewOf (placesOf b) b) h)
+    → (h : ℕ) → Parent (viewOf (placesOf b) b') h → Parent (viewOf (placesOf b) b) h × SamePlaces (viewOf (placesOf b) b') (viewOf (placesOf b) b) h
+stood-done b zero new b' e own = own refl
+stood-done b (suc k) new b' e own = λ h parent. rw e (rw e at parent, places-refl (viewOf (placesOf b) b) h)
+
+-- ---- actual delete
+
+-- the file's number is no file's then
+released-none : (b : List ℕ) (g : Good b (placesOf b)) (f : ℕ) (date : List ℕ) → Parent (viewOf (placesOf b) b) f → length date ≡ 6 → Parent (viewOf (placesOf b) (released (placesOf b) b f date)) f → ⊥
+unfolding released
+released-none b g f date parent six now =
+    let p = placesOf b in
+    let freed = freed-view p b (g .layout) (g .lawful) f parent date six in
+    let same = recount-view p (freedFile p b f date) (rw (freed-quiet p b (g .layout) (g .lawful) f parent date six .len) (g .layout)) (freedBlocks (viewOf p b) f) .files .table f (parent .low) (parent .high) in
+    let none = freed-word (viewOf p b) (viewOf p (freedFile p b f date)) f freed f (parent .low) (parent .high) (parent-file (viewOf p b) f parent) in
+    omega (arith, now .word, ap wordOf same, none, parent .low)
+
+module _ (b body : List ℕ) (g : Good b (placesOf b)) (id : ℕ) (date : List ℕ) (r : ℕ) (b' body' : List ℕ) (h : Deleted b body id date r b' body') where
+  abbrev gone : ℕ → Type 0
+  gone f = (id ≡ f) × (r ≡ 0)
+
+  module _ (e : r ≡ 0) where
+    pub deleted-parent : Parent (viewOf (placesOf b) b) id
+    deleted-parent = recover-asks b body id date r (h .number) e (placesOf b) refl .1 .0
+
+    six : length date ≡ 6
+    six = recover-asks b body id date r (h .number) e (placesOf b) refl .1 .1 .1
+
+    frame : Untouched (viewOf (placesOf b) b) (viewOf (placesOf b) (released (placesOf b) b id date)) id
+    frame = released-untouched (placesOf b) b (g .layout) (g .lawful) id deleted-parent date six
+
+  -- the file that is actually deleted is gone
+  pub deleted-leaves : Leaves b b' id (λ f. (id ≡ f) × (r ≡ 0))
+  deleted-leaves = leaves-done b g id gone r (released (placesOf b) b id date) b' (h .books) (λ e.
+      leaves-at b g id gone (released (placesOf b) b id date) id (frame e) (λ h parent ne. ne) (λ parent kept. absurd (kept (refl, e))))
+
+  pub deleted-header : ((id ≡ id) × (r ≡ 0) → ⊥) → HeaderKept (viewOf (placesOf b) b) (viewOf (placesOf b) b') id
+  deleted-header kept = header-done b id r (released (placesOf b) b id date) b' (h .books) (λ e. absurd (kept (refl, e)))
+
+  -- and no other comes to be
+  pub deleted-stood : Good b' (placesOf b) → (f : ℕ) → Parent (viewOf (placesOf b) b') f → Parent (viewOf (placesOf b) b) f × SamePlaces (viewOf (placesOf b) b') (viewOf (placesOf b) b) f
+  deleted-stood good = stood-done b r (released (placesOf b) b id date) b' (h .books) (λ e.
+      (let is : b' ≡ released (placesOf b) b id date = rw e at (h .books) in
+      stood (placesOf b) b b' good id (rw is (frame e)) (λ now. absurd (released-none b g id date (deleted-parent e) (six e) (rw is at now)))))

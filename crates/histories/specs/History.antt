@@ -4,14 +4,18 @@ use mathlib.Core.Path.{_≡_}
 use mathlib.Core.Bool.{Bool}
 use mathlib.Core.List.{List}
 use Prim.Native.Nat.{ℕ, _+_, _-_, _/_, _≤_, _<_}
+use lib.ListN.{drop}
 use Rattle.tables.specs.declared.counts.Chosen.{Chosen}
 use Rattle.tables.specs.Books.{bookTests}
 use Rattle.tables.specs.Gates.{Gate}
+use Rattle.tables.specs.Indexes.{headerStart, headerCount}
 use Rattle.tables.specs.Places.{placesOf}
 use Rattle.tables.specs.Rules.R8.{fileSectors}
 use Rattle.tables.specs.Views.{View, viewOf, Parent}
-use Rattle.files.specs.Moves.{moved, sectorContent, bufferSector}
+use Rattle.files.specs.HeaderBytes.{headerBytes}
+use Rattle.files.specs.Moves.{moved, sectorContent, sectorsContent, bufferSector}
 use Rattle.files.specs.Spots.{kthSector}
+use Rattle.files.specs.Unchanged.{HeaderKept}
 use Rattle.requests.specs.declared.amount.Amount.{Amount}
 use Rattle.requests.specs.declared.answer.Answer.{Answer}
 use Rattle.requests.specs.declared.broken_rule.Diagnosis.{Diagnosis}
@@ -26,6 +30,7 @@ use Rattle.requests.specs.Delete.{Deleted}
 use Rattle.requests.specs.Diagnosis.{Diagnosed, DiagnosisText}
 use Rattle.requests.specs.Amounts.{amountValue}
 use Rattle.requests.specs.Grow.{Grew}
+use Rattle.requests.specs.Header.{HeaderPlaced, showHeaderTests, HeaderShown}
 use Rattle.requests.specs.Listing.{Listed}
 use Rattle.requests.specs.Locate.{Locates}
 use Rattle.requests.specs.Mount.{Mounted, Dismounted}
@@ -61,6 +66,8 @@ pub data Question : Type 0 where
   locate : (id k : ℕ) → Question
   show : (id k : ℕ) → Question
   showNumber : (id k : ℕ) → Question
+  showHeader : (id : ℕ) → Question
+  headerNumber : (id : ℕ) → Question
   read : (id : ℕ) (position long : Amount) (exchange : Bool) (out : List ℕ) → Question
   space : Question
   report : Question
@@ -73,6 +80,8 @@ Answers (list from entries) v = (r : Answer) × (entries' : List ℕ) × Listed 
 Answers (locate id k) v = (r : Located) × Locates (v .books) id k r
 Answers (show id k) v = (part : List ℕ) × Shown (v .books) (v .body) id k part
 Answers (showNumber id k) v = (r : ℕ) × Gate (showTests (v .books) (v .body) id k) r
+Answers (showHeader id) v = (part : List ℕ) × HeaderShown (v .books) (v .body) id part
+Answers (headerNumber id) v = (r : ℕ) × Gate (showHeaderTests (v .books) (v .body) id) r
 Answers (read id position long exchange out) v = (r : Answer) × (out' : List ℕ) × ReadOut (v .books) (v .body) id position long exchange out r out'
 Answers space v = (r : Space) × Spaced (v .books) r
 Answers report v = (r : Text) × Reported (v .books) r
@@ -91,6 +100,7 @@ pub data Request : Type 0 where
   recover : (id : ℕ) (date : List ℕ) → Request
   actualDelete : (id : ℕ) (date : List ℕ) → Request
   setProtection : (id w : ℕ) (date : List ℕ) → Request
+  placeHeader : (id : ℕ) (content date : List ℕ) → Request
   write : (id : ℕ) (position long : Amount) (exchange : Bool) (input date : List ℕ) → Request
 
 -- a request that is lent the books alone: its promise P is about them, and the body stays
@@ -106,10 +116,11 @@ Does dismount v v' = (r : ℕ) × BooksOnly (λ b b'. Dismounted b r b') v v'
 Does (createFixed name size types kind date) v v' = (r : Created) × BooksOnly (λ b b'. CreatedFixed b name size types kind date r b') v v'
 Does (createVariable name cell kind date) v v' = (r : Created) × BooksOnly (λ b b'. CreatedVariable b name cell kind date r b') v v'
 Does (grow id long date) v v' = (r : ℕ) × BooksOnly (λ b b'. Grew b id long date r b') v v'
-Does (temporaryDelete id date) v v' = (r : ℕ) × BooksOnly (λ b b'. Removed b id date r b') v v'
-Does (recover id date) v v' = (r : ℕ) × BooksOnly (λ b b'. Recovered b id date r b') v v'
-Does (actualDelete id date) v v' = (r : ℕ) × BooksOnly (λ b b'. Deleted b id date r b') v v'
+Does (temporaryDelete id date) v v' = (r : ℕ) × Removed (v .books) (v .body) id date r (v' .books) (v' .body)
+Does (recover id date) v v' = (r : ℕ) × Recovered (v .books) (v .body) id date r (v' .books) (v' .body)
+Does (actualDelete id date) v v' = (r : ℕ) × Deleted (v .books) (v .body) id date r (v' .books) (v' .body)
 Does (setProtection id w date) v v' = (r : ℕ) × BooksOnly (λ b b'. Protected b id w date r b') v v'
+Does (placeHeader id content date) v v' = (r : ℕ) × HeaderPlaced (v .books) (v .body) id content date r (v' .books) (v' .body)
 Does (write id position long exchange input date) v v' = (r : Answer) × Wrote (v .books) (v .body) id position long exchange input date r (v' .books) (v' .body)
 
 -- ---- histories
@@ -137,6 +148,7 @@ namedBy (temporaryDelete id date) = id
 namedBy (recover id date) = id
 namedBy (actualDelete id date) = id
 namedBy (setProtection id w date) = id
+namedBy (placeHeader id content date) = id
 namedBy (write id position long exchange input date) = id
 
 -- sector s of the volume belongs to place k of file f, active or temporarily deleted
@@ -145,9 +157,19 @@ pub record Belongs (v : Volume) (f k s : ℕ) : Type 0 where
   pub place : k < fileSectors (seen v) f
   pub here : kthSector (seen v) f k ≡ s
 
+-- it is the k-th sector of the header of file f
+pub record HeaderAt (v : Volume) (f k s : ℕ) : Type 0 where
+  pub file : Parent (seen v) f
+  pub place : k < headerCount (seen v .table f)
+  pub here : headerStart (seen v .table f) + k ≡ s
+
 -- the bytes of place k of file f
 abbrev pub bytesAt : Volume → ℕ → ℕ → List ℕ
 bytesAt v f k = sectorContent (v .body) (kthSector (seen v) f k)
+
+-- the bytes of the header of file f, none where it has no header
+abbrev pub headerOf : Volume → ℕ → List ℕ
+headerOf v f = sectorsContent (v .body) (headerStart (seen v .table f)) (headerCount (seen v .table f))
 
 -- a write that is done puts these bytes at place k of file f
 pub record Puts (id : ℕ) (position long : Amount) (exchange : Bool) (input : List ℕ) (r : Answer) (f k : ℕ) (bytes : List ℕ) : Type 0 where
@@ -169,6 +191,7 @@ PutsIn v v' (temporaryDelete id date) d f k bytes = ⊥
 PutsIn v v' (recover id date) d f k bytes = ⊥
 PutsIn v v' (actualDelete id date) d f k bytes = ⊥
 PutsIn v v' (setProtection id w date) d f k bytes = ⊥
+PutsIn v v' (placeHeader id content date) d f k bytes = ⊥
 PutsIn v v' (write id position long exchange input date) d f k bytes = Puts id position long exchange input (d .0) f k bytes
 
 -- the step is a done actual delete of file f
@@ -183,6 +206,7 @@ Deletes v v' (temporaryDelete id date) d f = ⊥
 Deletes v v' (recover id date) d f = ⊥
 Deletes v v' (actualDelete id date) d f = (id ≡ f) × (d .0 ≡ 0)
 Deletes v v' (setProtection id w date) d f = ⊥
+Deletes v v' (placeHeader id content date) d f = ⊥
 Deletes v v' (write id position long exchange input date) d f = ⊥
 
 -- the step neither writes place k of file f nor deletes the file
@@ -194,3 +218,41 @@ pub record Spares (v v' : Volume) (s : RequestStep v v') (f k : ℕ) : Type 0 wh
 abbrev pub SparedIn : {u v : Volume} → History u v → ℕ → ℕ → Type 0
 SparedIn (none e) f k = Unit {0}
 SparedIn (then {u} {v} {w} h s) f k = SparedIn h f k × Spares v w s f k
+
+-- ---- headers
+
+-- a placing that is done makes these bytes the header of file f
+pub record PutsHeader (id : ℕ) (content : List ℕ) (r f : ℕ) (bytes : List ℕ) : Type 0 where
+  pub file : id ≡ f
+  pub done : r ≡ 0
+  pub bytes' : bytes ≡ headerBytes id content
+
+-- the step is such a placing
+abbrev pub PutsHeaderIn : (v v' : Volume) (q : Request) → Does q v v' → ℕ → List ℕ → Type 0
+PutsHeaderIn v v' (looks q) d f bytes = ⊥
+PutsHeaderIn v v' mount d f bytes = ⊥
+PutsHeaderIn v v' dismount d f bytes = ⊥
+PutsHeaderIn v v' (createFixed name size types kind date) d f bytes = ⊥
+PutsHeaderIn v v' (createVariable name cell kind date) d f bytes = ⊥
+PutsHeaderIn v v' (grow id long date) d f bytes = ⊥
+PutsHeaderIn v v' (temporaryDelete id date) d f bytes = ⊥
+PutsHeaderIn v v' (recover id date) d f bytes = ⊥
+PutsHeaderIn v v' (actualDelete id date) d f bytes = ⊥
+PutsHeaderIn v v' (setProtection id w date) d f bytes = ⊥
+PutsHeaderIn v v' (placeHeader id content date) d f bytes = PutsHeader id content (d .0) f bytes
+PutsHeaderIn v v' (write id position long exchange input date) d f bytes = ⊥
+
+-- the header of file f lies where it lay and holds what it held, "but for the id", its first four bytes
+pub record SameHeader (v v' : Volume) (f : ℕ) : Type 0 where
+  pub place : HeaderKept (seen v) (seen v') f
+  pub bytes : drop 4 (headerOf v' f) ≡ drop 4 (headerOf v f)
+
+-- the step neither replaces the header of file f nor deletes the file
+pub record LeavesHeader (v v' : Volume) (s : RequestStep v v') (f : ℕ) : Type 0 where
+  pub unplaced : (bytes : List ℕ) → PutsHeaderIn v v' (s .request) (s .does) f bytes → ⊥
+  pub kept : Deletes v v' (s .request) (s .does) f → ⊥
+
+-- no step of the history does
+abbrev pub HeaderLeftIn : {u v : Volume} → History u v → ℕ → Type 0
+HeaderLeftIn (none e) f = Unit {0}
+HeaderLeftIn (then {u} {v} {w} h s) f = HeaderLeftIn h f × LeavesHeader v w s f

@@ -11,7 +11,7 @@ use Rattle.field.specs.Parts.{over}
 use Rattle.tables.specs.declared.kinds.Sector.{Sector}
 use Rattle.requests.specs.declared.answer.Answer.{Answer}
 use Rattle.examination.specs.declared.fault.Fault.{Fault}
-use Rattle.examination.specs.Faults.{ruleOf, placeKindOf, placeOf}
+use Rattle.examination.specs.Faults.{ruleOf, placeKindOf, faultPlace}
 use Rattle.requests.specs.declared.broken_rule.Diagnosis.{Diagnosis}
 use Rattle.requests.specs.declared.broken_rule.Diagnosis.the-variants.{Found, Refused as Unexamined}
 use Rattle.requests.specs.declared.create.Created.{Created}
@@ -103,7 +103,7 @@ module _ (b : List ℕ) (t : Text) where
 
 -- which rule is broken, arm by arm
 module _ (b : List ℕ) (d : Diagnosis) (h : Diagnosed b d) where
-  pub broken-found : (f : Fault) (rule kind place : ℕ) → d ≡ Found f → rule ≡ ruleOf f → kind ≡ placeKindOf f → place ≡ placeOf f → BrokenOut b 0 rule kind place
+  pub broken-found : (f : Fault) (rule kind place : ℕ) → d ≡ Found f → rule ≡ ruleOf f → kind ≡ placeKindOf f → place ≡ faultPlace f → BrokenOut b 0 rule kind place
   broken-found f rule kind place e x y z = record { answer = Found f; diagnosed = rw e at h; number = refl; broken = x; sort = y; place' = z }
 
   pub broken-refused : (n : ℕ) → d ≡ Unexamined n → BrokenOut b n 0 0 0

@@ -19,6 +19,7 @@ use requests::list::list;
 use requests::locate::Located;
 use requests::locate::locate;
 use requests::mount::mount;
+use requests::place_header::place_header;
 use requests::read::read;
 use requests::recover::recover;
 use requests::report::Text;
@@ -28,6 +29,8 @@ use requests::set_protection::set_protection;
 use requests::show::Part;
 use requests::show::show_number;
 use requests::show::show_part;
+use requests::show_header::header_number;
+use requests::show_header::header_part;
 use requests::space::Space;
 use requests::space::space_of;
 use requests::temporary_delete::temporary_delete;
@@ -44,6 +47,7 @@ ghost use Rattle.requests.specs.Create.{numberOf as createdNumber, idValue, Cre
 ghost use Rattle.requests.specs.Delete.{Deleted};
 ghost use Rattle.requests.specs.Format.{Formatted};
 ghost use Rattle.requests.specs.Grow.{Grew};
+ghost use Rattle.requests.specs.Header.{HeaderPlaced, showHeaderTests, HeaderShownAt};
 ghost use Rattle.requests.specs.Listing.{Listed};
 ghost use Rattle.requests.specs.Mount.{Mounted, Dismounted};
 ghost use Rattle.requests.specs.Read.{ReadOut};
@@ -141,24 +145,29 @@ pub extern "C" fn isc_grow(books: &mut [u8], id: u32, length: i32, date: &[u8]) 
 }
 
 #[no_mangle]
-pub extern "C" fn isc_temporary_delete(books: &mut [u8], id: u32, date: &[u8]) -> u32
-    ensures { λ r. ⌜ Removed (now (books .entry)) id (now (date .entry)) r (now (books .exit)) ⌝ }
+pub extern "C" fn isc_temporary_delete(
+    books: &mut [u8],
+    body: &mut [u8],
+    id: u32,
+    date: &[u8],
+) -> u32
+    ensures { λ r. ⌜ Removed (now (books .entry)) (now (body .entry)) id (now (date .entry)) r (now (books .exit)) (now (body .exit)) ⌝ }
 {
-    temporary_delete(books, id, date)
+    temporary_delete(books, body, id, date)
 }
 
 #[no_mangle]
-pub extern "C" fn isc_recover(books: &mut [u8], id: u32, date: &[u8]) -> u32
-    ensures { λ r. ⌜ Recovered (now (books .entry)) id (now (date .entry)) r (now (books .exit)) ⌝ }
+pub extern "C" fn isc_recover(books: &mut [u8], body: &mut [u8], id: u32, date: &[u8]) -> u32
+    ensures { λ r. ⌜ Recovered (now (books .entry)) (now (body .entry)) id (now (date .entry)) r (now (books .exit)) (now (body .exit)) ⌝ }
 {
-    recover(books, id, date)
+    recover(books, body, id, date)
 }
 
 #[no_mangle]
-pub extern "C" fn isc_actual_delete(books: &mut [u8], id: u32, date: &[u8]) -> u32
-    ensures { λ r. ⌜ Deleted (now (books .entry)) id (now (date .entry)) r (now (books .exit)) ⌝ }
+pub extern "C" fn isc_actual_delete(books: &mut [u8], body: &mut [u8], id: u32, date: &[u8]) -> u32
+    ensures { λ r. ⌜ Deleted (now (books .entry)) (now (body .entry)) id (now (date .entry)) r (now (books .exit)) (now (body .exit)) ⌝ }
 {
-    actual_delete(books, id, date)
+    actual_delete(books, body, id, date)
 }
 
 #[no_mangle]
@@ -349,4 +358,32 @@ pub extern "C" fn isc_show_number(books: &[u8], body: &[u8], id: u32, k: u32) ->
     ensures { λ r. ⌜ Gate (showTests (now (books .entry)) (now (body .entry)) id k) r ⌝ }
 {
     show_number(books, body, id, k)
+}
+
+#[no_mangle]
+pub extern "C" fn isc_place_header(
+    books: &mut [u8],
+    body: &mut [u8],
+    id: u32,
+    content: &[u8],
+    date: &[u8],
+) -> u32
+    ensures { λ r. ⌜ HeaderPlaced (now (books .entry)) (now (body .entry)) id (now (content .entry)) (now (date .entry)) r (now (books .exit)) (now (body .exit)) ⌝ }
+{
+    place_header(books, body, id, content, date)
+}
+
+// A header: where it lies, as isc_show_place hands back a sector's place.
+#[no_mangle]
+pub extern "C" fn isc_header_place(books: &[u8], body: &[u8], id: u32) -> Part
+    ensures { λ r. ⌜ HeaderShownAt (now (books .entry)) (now (body .entry)) id r ⌝ }
+{
+    header_part(books, body, id)
+}
+
+#[no_mangle]
+pub extern "C" fn isc_header_number(books: &[u8], body: &[u8], id: u32) -> u32
+    ensures { λ r. ⌜ Gate (showHeaderTests (now (books .entry)) (now (body .entry)) id) r ⌝ }
+{
+    header_number(books, body, id)
 }

@@ -11,27 +11,28 @@ use Rattle.tables.specs.Lawful.{Lawful}
 use Rattle.tables.specs.Places.{placesOf, Layout}
 use Rattle.tables.specs.Views.{viewOf, Parent}
 use Rattle.tables.proofs.GateLaws.{gate-one}
+use Rattle.files.specs.HeaderBytes.{headerMarked}
 use Rattle.files.specs.Release.{released}
 use Rattle.requests.specs.State.{recoverTests}
 use Rattle.requests.specs.Delete.{Deleted}
 use Rattle.requests.proofs.RequestLaws.{after-refused, after-one}
 use Rattle.requests.proofs.StateLaws.{recover-asks}
 
-module _ (b : List ℕ) (id : ℕ) (date : List ℕ) (n : ℕ) (g : Gate (recoverTests b id date) n) where
-  pub delete-refused : n ≢ 0 → Deleted b id date n b
-  delete-refused h = record { number = g; books = after-refused n _ b h }
+module _ (b body : List ℕ) (id : ℕ) (date : List ℕ) (n : ℕ) (g : Gate (recoverTests b body id date) n) where
+  pub delete-refused : n ≢ 0 → Deleted b body id date n b body
+  delete-refused h = record { number = g; books = after-refused n _ b h; body'' = after-refused n _ body h }
 
   module _ (e : n ≡ 0) (p : Places) (is : p ≡ placesOf b) where
     -- what giving the file back asks
     pub delete-asks : Layout p (length b) × (Lawful p b × (Parent (viewOf p b) id × ((deletedBit (attributeOf (tableAt p b id)) ≡ 1) × (length date ≡ 6))))
-    delete-asks = let a = recover-asks b id date n g e p is in (a .0 .layout, (a .0 .lawful, a .1))
+    delete-asks = let a = recover-asks b body id date n g e p is in (a .0 .layout, (a .0 .lawful, a .1))
 
-    pub delete-done : (b' : List ℕ) → b' ≡ released p b id date → Deleted b id date 0 b'
-    delete-done b' h = record { number = rw e at g; books = h ∙ ap (λ (q : Places). released q b id date) is }
+    pub delete-done : (b' body' : List ℕ) → body' ≡ headerMarked (viewOf p b) id 0 body → b' ≡ released p b id date → Deleted b body id date 0 b' body'
+    delete-done b' body' k h = record { number = rw e at g; books = h ∙ ap (λ (q : Places). released q b id date) is; body'' = rw (k, is) }
 
 -- ---- one result
 
-pub deleted-one : (b : List ℕ) (id : ℕ) (date : List ℕ) (r s : ℕ) (x y : List ℕ) → Deleted b id date r x → Deleted b id date s y → (r ≡ s) × (x ≡ y)
-deleted-one b id date r s x y h k =
-    let e = gate-one (recoverTests b id date) r s (h .number) (k .number) in
-    (e, after-one r s x y _ b e (h .books) (k .books))
+pub deleted-one : (b body : List ℕ) (id : ℕ) (date : List ℕ) (r s : ℕ) (x y m n : List ℕ) → Deleted b body id date r x m → Deleted b body id date s y n → (r ≡ s) × ((x ≡ y) × (m ≡ n))
+deleted-one b body id date r s x y m n h k =
+    let e = gate-one (recoverTests b body id date) r s (h .number) (k .number) in
+    (e, (after-one r s x y _ b e (h .books) (k .books), after-one r s m n _ body e (h .body'') (k .body'')))

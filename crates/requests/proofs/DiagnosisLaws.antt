@@ -16,7 +16,7 @@ use Rattle.examination.specs.declared.fault.Fault.{Fault}
 use Rattle.examination.specs.declared.fault.Fault.the-variants.{Nothing}
 use Rattle.examination.specs.Examined.{PlacedAt}
 use Rattle.examination.specs.Rulings.{rulings, Broken, Lower}
-use Rattle.examination.specs.Faults.{ruleOf, placeKindOf, placeOf, NamesFault}
+use Rattle.examination.specs.Faults.{ruleOf, placeKindOf, faultPlace, NamesFault}
 use Rattle.examination.proofs.CheckLaws.{has-layout, placed-zero}
 use Rattle.examination.proofs.RulingLaws.{faults-one}
 use Rattle.examination.proofs.BrokenLaws.{broken-there, broken-lowest, nothing-lawful, lawful-nothing}
@@ -71,10 +71,10 @@ module _ (b : List ℕ) where
         rw e (h .names refl)
 
     -- "it fails there, nothing lower fails"
-    pub named-there : f ≢ Nothing → Broken (placesOf b) b (ruleOf f) (placeKindOf f) (placeOf f)
+    pub named-there : f ≢ Nothing → Broken (placesOf b) b (ruleOf f) (placeKindOf f) (faultPlace f)
     named-there ne = broken-there (placesOf b) b f named ne
 
-    pub named-lowest : f ≢ Nothing → (rule kind place : ℕ) → Broken (placesOf b) b rule kind place → Lower rule kind place (ruleOf f) (placeKindOf f) (placeOf f) → ⊥
+    pub named-lowest : f ≢ Nothing → (rule kind place : ℕ) → Broken (placesOf b) b rule kind place → Lower rule kind place (ruleOf f) (placeKindOf f) (faultPlace f) → ⊥
     named-lowest ne = broken-lowest (placesOf b) b f named ne
 
     -- "nothing is found exactly when the request would not answer 4"

@@ -15,6 +15,9 @@ pub mod StampLaws
 pub mod FlagLaws
 pub mod StateKeeps
 pub mod LocateLaws
+pub mod ShowHeaderLaws
+pub mod PlaceHeaderLaws
+pub mod PlaceHeaderKeeps
 pub mod DeleteLaws
 pub mod SearchRequestLaws
 pub mod ListLaws

@@ -93,6 +93,19 @@ module _ (b : List ℕ) (id k n : ℕ) (h : Gate (locateTests b id k) n) (e : n 
     pub locate-done : (s : Sector) → s .0 ≡ kthSector (viewOf p b) id k → Locates b id k (At s)
     locate-done s at = record { number = rw e at h; answer = ap (λ (x : ℕ). At (record { 0 = x })) (at ∙ ap (λ (x : Places). kthSector (viewOf x b) id k) is) }
 
+-- ---- a part of the body: n is the number, and c sectors from s on are shown
+
+module _ (body : List ℕ) (s c : ℕ) where
+  -- it lies in the body if the sectors do
+  pub part-inside : (n : ℕ) (r : Part) → r ≡ partOf n s c → (n ≡ 0 → bodyPlace s + 1024 * c ≤ length body) → r .at + r .len ≤ length body
+  part-inside zero r e h = rw e (h refl)
+  part-inside (suc n) r e h = rw e (omega arith)
+
+  -- and it has their bytes
+  pub part-bytes : (n : ℕ) (r : Part) → r ≡ partOf n s c → take (r .at + r .len - r .at) (drop (r .at) body) ≡ bytesOf n body s c
+  part-bytes zero r e = rw (add-sub-cancel-left, e) refl
+  part-bytes (suc n) r e = rw (add-sub-cancel-left, e) refl
+
 -- ---- show
 
 pub show-refused : (b body : List ℕ) (id k n : ℕ) → Gate (showTests b body id k) n → n ≢ 0 → ShownAt b body id k (record { at = 0; len = 0 })
@@ -110,7 +123,7 @@ module _ (b body : List ℕ) (id k : ℕ) where
     show-file = let s = sector-has b id k (usableTests 8 b id) (rest .1) in (used-good b _ h, (usable-active 8 b id (s .0) .0, s .1))
 
     -- its sector lies in the body
-    show-inside : bodyPlace (kthOf b id k) + 1024 ≤ length body
+    show-inside : bodyPlace (kthOf b id k) + 1024 * 1 ≤ length body
     show-inside =
         let g = show-file .0 in
         let s = kth-inside (placesOf b) b (g .layout) (g .lawful) id (show-file .1 .0) k (show-file .1 .1) in
@@ -131,21 +144,12 @@ module _ (b body : List ℕ) (id k : ℕ) where
         part = ap (λ (x : ℕ). record { at = x; len = 1024 }) (place ∙ ap bodyPlace (at ∙ ap (λ (x : Places). kthSector (viewOf x b) id k) is));
       }
 
-  -- the part lies in the body
-  part-inside : (n : ℕ) (r : Part) → Gate (showTests b body id k) n → r ≡ partOf n (kthOf b id k) → r .at + r .len ≤ length body
-  part-inside zero r h e = rw e (show-inside h)
-  part-inside (suc n) r h e = rw e (omega arith)
-
-  part-bytes : (n : ℕ) (r : Part) → r ≡ partOf n (kthOf b id k) → take (r .len) (drop (r .at) body) ≡ bytesOf n body (kthOf b id k)
-  part-bytes zero r e = rw e refl
-  part-bytes (suc n) r e = rw e refl
-
   module _ (r : Part) (h : ShownAt b body id k r) where
     pub shown-inside : r .at + r .len ≤ length body
-    shown-inside = part-inside (h .number) r (h .gate) (h .part)
+    shown-inside = part-inside body (kthOf b id k) 1 (h .number) r (h .part) (λ z. show-inside (rw z at (h .gate)))
 
     pub shown-part : Shown b body id k (take (r .at + r .len - r .at) (drop (r .at) body))
-    shown-part = record { number = h .number; gate = h .gate; bytes = rw add-sub-cancel-left (part-bytes (h .number) r (h .part)) }
+    shown-part = record { number = h .number; gate = h .gate; bytes = part-bytes body (kthOf b id k) 1 (h .number) r (h .part) }
 
 -- ---- one result
 
@@ -157,9 +161,9 @@ located-one b id k r s h l =
 pub shown-at-one : (b body : List ℕ) (id k : ℕ) (r s : Part) → ShownAt b body id k r → ShownAt b body id k s → r ≡ s
 shown-at-one b body id k r s h l =
     let e = gate-one (showTests b body id k) (h .number) (l .number) (h .gate) (l .gate) in
-    h .part ∙ ap (λ (n : ℕ). partOf n (kthOf b id k)) e ∙ sym (l .part)
+    h .part ∙ ap (λ (n : ℕ). partOf n (kthOf b id k) 1) e ∙ sym (l .part)
 
 pub shown-one : (b body : List ℕ) (id k : ℕ) (x y : List ℕ) → Shown b body id k x → Shown b body id k y → x ≡ y
 shown-one b body id k x y h l =
     let e = gate-one (showTests b body id k) (h .number) (l .number) (h .gate) (l .gate) in
-    h .bytes ∙ ap (λ (n : ℕ). bytesOf n body (kthOf b id k)) e ∙ sym (l .bytes)
+    h .bytes ∙ ap (λ (n : ℕ). bytesOf n body (kthOf b id k) 1) e ∙ sym (l .bytes)

@@ -153,13 +153,13 @@ module _ (b : List ℕ) (g : Good b (placesOf b)) (f : ℕ) (date : List ℕ) (r
   attribute-restates : (c : List ℕ) (a : ℕ) → Recounted b c → Parent (viewOf (placesOf b) b) f → length date ≡ 6 → Restates (putState (placesOf b) c f a date)
   attribute-restates c a k parent six = (parent, put-restated (placesOf b) b c f a date (g .layout) k (parent .low) (parent .high) six)
 
-  pub removed-restates : Gate (removeTests b f date) r → r ≡ 0 → Restates (removed (placesOf b) b f date)
+  pub removed-restates : (body : List ℕ) → Gate (removeTests b body f date) r → r ≡ 0 → Restates (removed (placesOf b) b f date)
   unfolding removed
-  removed-restates gate e = let h = remove-asks b f date r gate e (placesOf b) refl .1 in attribute-restates _ _ (counts-recounted b _ _ _ _) (h .0) (h .1 .1)
+  removed-restates body gate e = let h = remove-asks b body f date r gate e (placesOf b) refl .1 in attribute-restates _ _ (counts-recounted b _ _ _ _) (h .0) (h .1 .1)
 
-  pub recovered-restates : Gate (recoverTests b f date) r → r ≡ 0 → Restates (recovered (placesOf b) b f date)
+  pub recovered-restates : (body : List ℕ) → Gate (recoverTests b body f date) r → r ≡ 0 → Restates (recovered (placesOf b) b f date)
   unfolding recovered
-  recovered-restates gate e = let h = recover-asks b f date r gate e (placesOf b) refl .1 in attribute-restates _ _ (counts-recounted b _ _ _ _) (h .0) (h .1 .1)
+  recovered-restates body gate e = let h = recover-asks b body f date r gate e (placesOf b) refl .1 in attribute-restates _ _ (counts-recounted b _ _ _ _) (h .0) (h .1 .1)
 
   pub protected-restates : (w : ℕ) → Gate (protectTests b f w date) r → r ≡ 0 → Restates (protected (placesOf b) b f w date)
   unfolding protected

@@ -226,18 +226,18 @@ module _ (p : Places) (b : List ℕ) (f : ℕ) (date : List ℕ) {extra : ℕ �
 -- ---- the promises
 
 -- "the rules still hold" (demand 3): after temporary delete
-pub removed-keeps : (b : List ℕ) (id : ℕ) (date : List ℕ) (r : ℕ) (b' : List ℕ) (p : Places) {extra : ℕ → ℕ} → Removed b id date r b' → GoodWith extra b p → GoodWith extra b' p
-removed-keeps b id date r b' p h g =
+pub removed-keeps : (b body : List ℕ) (id : ℕ) (date : List ℕ) (r : ℕ) (b' body' : List ℕ) (p : Places) {extra : ℕ → ℕ} → Removed b body id date r b' body' → GoodWith extra b p → GoodWith extra b' p
+removed-keeps b body id date r b' body' p h g =
     done-keeps r (removed (placesOf b) b id date) b b' p (h .books) (λ z.
-    (let a = remove-asks b id date r (h .number) z (placesOf b) refl in
-    rw (g .places) (removed-good (placesOf b) b id date (rw (g .places) at g) (a .1 .0) (remove-valid b id date r (h .number) z) (a .1 .1 .0)))) g
+    (let a = remove-asks b body id date r (h .number) z (placesOf b) refl in
+    rw (g .places) (removed-good (placesOf b) b id date (rw (g .places) at g) (a .1 .0) (remove-valid b body id date r (h .number) z) (a .1 .1 .0)))) g
 
 -- after recover
-pub recovered-keeps : (b : List ℕ) (id : ℕ) (date : List ℕ) (r : ℕ) (b' : List ℕ) (p : Places) {extra : ℕ → ℕ} → Recovered b id date r b' → GoodWith extra b p → GoodWith extra b' p
-recovered-keeps b id date r b' p h g =
+pub recovered-keeps : (b body : List ℕ) (id : ℕ) (date : List ℕ) (r : ℕ) (b' body' : List ℕ) (p : Places) {extra : ℕ → ℕ} → Recovered b body id date r b' body' → GoodWith extra b p → GoodWith extra b' p
+recovered-keeps b body id date r b' body' p h g =
     done-keeps r (recovered (placesOf b) b id date) b b' p (h .books) (λ z.
-    (let a = recover-asks b id date r (h .number) z (placesOf b) refl in
-    rw (g .places) (recovered-good (placesOf b) b id date (rw (g .places) at g) (a .1 .0) (recover-valid b id date r (h .number) z) (a .1 .1 .0)))) g
+    (let a = recover-asks b body id date r (h .number) z (placesOf b) refl in
+    rw (g .places) (recovered-good (placesOf b) b id date (rw (g .places) at g) (a .1 .0) (recover-valid b body id date r (h .number) z) (a .1 .1 .0)))) g
 
 -- after set protection
 pub protected-keeps : (b : List ℕ) (id w : ℕ) (date : List ℕ) (r : ℕ) (b' : List ℕ) (p : Places) {extra : ℕ → ℕ} → Protected b id w date r b' → GoodWith extra b p → GoodWith extra b' p

@@ -12,8 +12,8 @@ use Rattle.field.proofs.Sums.{sum-part}
 use Rattle.field.proofs.Tests.{says-map}
 use Rattle.tables.specs.declared.places.Places.{Places}
 use Rattle.tables.specs.Dates.{Date}
-use Rattle.tables.specs.Indexes.{tableAt, wordOf, attributeOf, directoryBit, systemBit, deletedBit}
-use Rattle.tables.specs.Places.{placesOf}
+use Rattle.tables.specs.Indexes.{tableAt, wordOf, attributeOf, directoryBit, systemBit, deletedBit, minus}
+use Rattle.tables.specs.Places.{placesOf, Layout}
 use Rattle.tables.specs.Sector1.{activeOf, deletedOf, systemOf, directoryOf}
 use Rattle.tables.specs.Gates.{Gate}
 use Rattle.tables.specs.Books.{Good, GoodWith}
@@ -21,11 +21,14 @@ use Rattle.tables.specs.Rules.R9.{activeOne, deletedOne, systemOne, directoryOn
 use Rattle.tables.specs.Views.{View, viewOf, Parent, tally}
 use Rattle.tables.proofs.Sector1CountLaws.{ones-active, ones-deleted}
 use Rattle.tables.proofs.GateLaws.{gate-one, gate-stop, gate-skip, gate-rest, gate-front}
+use Rattle.files.specs.HeaderBytes.{headerMarked, HeaderInBody}
 use Rattle.requests.specs.Answers.{argumentTests}
-use Rattle.requests.specs.Named.{askedTests, usableTests}
+use Rattle.requests.specs.Body.{BodySized, lentTests}
+use Rattle.requests.specs.Named.{stateTests, askedTests, usableTests}
 use Rattle.requests.specs.State.{putState, putCounts, removed, recovered, protectionOf, protected, removeTests, Removed, recoverTests, Recovered, ProtectAllowed, protectTests, Protected}
 use Rattle.requests.proofs.RequestLaws.{after-refused, after-one, good-few}
-use Rattle.requests.proofs.ArgumentLaws.{argument-says, argument-allowed, argument-good, argument-room}
+use Rattle.requests.proofs.ArgumentLaws.{argument-allowed, argument-good, argument-room}
+use Rattle.requests.proofs.BodyLaws.{lent-says, lent-allowed, lent-sized, lent-good, lent-room, mark-asks}
 use Rattle.requests.proofs.NamedLaws.{asked-says, state-file, usable-active}
 
 -- ---- what the rules say of a file's attribute, and of sector 1's counts
@@ -113,61 +116,84 @@ module _ (b : List ℕ) (p : Places) (f : ℕ) {extra : ℕ → ℕ} (g : GoodWi
 
 -- ---- temporary delete and recover
 
-module _ (b : List ℕ) (id : ℕ) (date : List ℕ) where
-  module _ (a : Bool) (n : ℕ) (s : Says a (Date date)) (g : Gate (argumentTests b (a ≡ true)) n) where
-    pub remove-stops : n ≢ 0 → Gate (removeTests b id date) n
+module _ (b body : List ℕ) (id : ℕ) (date : List ℕ) where
+  module _ (a : Bool) (n : ℕ) (s : Says a (Date date)) (g : Gate (lentTests b body (a ≡ true)) n) where
+    pub remove-stops : n ≢ 0 → Gate (removeTests b body id date) n
     unfolding removeTests
-    remove-stops ne = gate-stop (argumentTests b (Date date)) _ n (argument-says b a _ n s g) ne
+    remove-stops ne = gate-stop (lentTests b body (Date date)) _ n (lent-says b body a _ n s g) ne
 
-    pub remove-goes : (r : ℕ) → n ≡ 0 → Gate (usableTests 4 b id) r → Gate (removeTests b id date) r
+    pub remove-goes : (r : ℕ) → n ≡ 0 → Gate (usableTests 4 b id) r → Gate (removeTests b body id date) r
     unfolding removeTests
-    remove-goes r e h = gate-skip (argumentTests b (Date date)) _ n r (argument-says b a _ n s g) e h
+    remove-goes r e h = gate-skip (lentTests b body (Date date)) _ n r (lent-says b body a _ n s g) e h
 
-  pub recover-asked : (a : Bool) (n : ℕ) → Says a (Date date) → Gate (askedTests 1 b (a ≡ true) id) n → Gate (recoverTests b id date) n
-  unfolding recoverTests
-  recover-asked a n s g = asked-says 1 b id a (Date date) n s g
+    pub recover-stops : n ≢ 0 → Gate (recoverTests b body id date) n
+    unfolding recoverTests
+    recover-stops ne = gate-stop (lentTests b body (Date date)) _ n (lent-says b body a _ n s g) ne
 
-  module _ (n : ℕ) (g : Gate (removeTests b id date) n) (e : n ≡ 0) where
-    remove-front : Gate (argumentTests b (Date date)) 0
+    pub recover-goes : (r : ℕ) → n ≡ 0 → Gate (stateTests 1 b id) r → Gate (recoverTests b body id date) r
+    unfolding recoverTests
+    recover-goes r e h = gate-skip (lentTests b body (Date date)) _ n r (lent-says b body a _ n s g) e h
+
+  module _ (n : ℕ) (g : Gate (removeTests b body id date) n) (e : n ≡ 0) where
+    remove-front : Gate (lentTests b body (Date date)) 0
     unfolding removeTests
-    remove-front = gate-front (argumentTests b (Date date)) _ (rw e at g)
+    remove-front = gate-front (lentTests b body (Date date)) _ (rw e at g)
 
     pub remove-room : 2048 ≤ length b
-    remove-room = argument-room b (Date date) 0 remove-front refl
+    remove-room = lent-room b body (Date date) 0 remove-front refl
 
     pub remove-valid : Date date
-    remove-valid = argument-allowed b (Date date) 0 remove-front refl
+    remove-valid = lent-allowed b body (Date date) 0 remove-front refl
 
+    pub remove-sized : BodySized b body
+    remove-sized = lent-sized b body (Date date) 0 remove-front refl
+
+    -- what the books' change asks
     pub remove-asks : (p : Places) → p ≡ placesOf b → Good b p × (Parent (viewOf p b) id × ((deletedBit (attributeOf (tableAt p b id)) ≡ 0) × (length date ≡ 6)))
     unfolding removeTests
-    remove-asks p is = let f = usable-active 4 b id (gate-rest (argumentTests b (Date date)) _ (rw e at g)) in rw is (argument-good b (Date date) 0 remove-front refl, (f .0, (f .1, remove-valid .long)))
+    remove-asks p is = let f = usable-active 4 b id (gate-rest (lentTests b body (Date date)) _ (rw e at g)) in rw is (lent-good b body (Date date) 0 remove-front refl, (f .0, (f .1, remove-valid .long)))
 
-  pub remove-refused : (n : ℕ) → Gate (removeTests b id date) n → n ≢ 0 → Removed b id date n b
-  remove-refused n g h = record { number = g; books = after-refused n _ b h }
+    -- what the header's asks, and the id that is written there
+    pub remove-marks : (p : Places) → p ≡ placesOf b → Layout p (length b) × (((1 ≤ id) × (id ≤ p .indexes)) × HeaderInBody (tableAt p b id) (length body))
+    remove-marks p is = let a = remove-asks p is in mark-asks b body p id (a .0) (a .1 .0) remove-sized
 
-  pub remove-done : (n : ℕ) (p : Places) (b' : List ℕ) → Gate (removeTests b id date) n → n ≡ 0 → p ≡ placesOf b → b' ≡ removed p b id date → Removed b id date 0 b'
-  remove-done n p b' g e is h = record { number = rw e at g; books = h ∙ ap (λ (q : Places). removed q b id date) is }
+    pub remove-few : (1 ≤ id) × (id ≤ 4096)
+    remove-few = let m = remove-marks (placesOf b) refl in (m .1 .0 .0, omega (arith, m .1 .0 .1, m .0 .few))
 
-  module _ (n : ℕ) (g : Gate (recoverTests b id date) n) (e : n ≡ 0) where
-    recover-front : Gate (argumentTests b (Date date)) 0
+  pub remove-refused : (n : ℕ) → Gate (removeTests b body id date) n → n ≢ 0 → Removed b body id date n b body
+  remove-refused n g h = record { number = g; books = after-refused n _ b h; body'' = after-refused n _ body h }
+
+  pub remove-done : (n : ℕ) (p : Places) (w : ℕ) (b' body' : List ℕ) → Gate (removeTests b body id date) n → n ≡ 0 → p ≡ placesOf b → w ≡ minus id
+      → body' ≡ headerMarked (viewOf p b) id w body → b' ≡ removed p b id date → Removed b body id date 0 b' body'
+  remove-done n p w b' body' g e is own k h = record { number = rw e at g; books = h ∙ ap (λ (q : Places). removed q b id date) is; body'' = rw (k, is, own) }
+
+  module _ (n : ℕ) (g : Gate (recoverTests b body id date) n) (e : n ≡ 0) where
+    recover-front : Gate (lentTests b body (Date date)) 0
     unfolding recoverTests
-    recover-front = gate-front (argumentTests b (Date date)) _ (rw e at g)
+    recover-front = gate-front (lentTests b body (Date date)) _ (rw e at g)
 
     pub recover-room : 2048 ≤ length b
-    recover-room = argument-room b (Date date) 0 recover-front refl
+    recover-room = lent-room b body (Date date) 0 recover-front refl
 
     pub recover-valid : Date date
-    recover-valid = argument-allowed b (Date date) 0 recover-front refl
+    recover-valid = lent-allowed b body (Date date) 0 recover-front refl
+
+    pub recover-sized : BodySized b body
+    recover-sized = lent-sized b body (Date date) 0 recover-front refl
 
     pub recover-asks : (p : Places) → p ≡ placesOf b → Good b p × (Parent (viewOf p b) id × ((deletedBit (attributeOf (tableAt p b id)) ≡ 1) × (length date ≡ 6)))
     unfolding recoverTests
-    recover-asks p is = let f = state-file b id 1 (gate-rest (argumentTests b (Date date)) _ (rw e at g)) in rw is (argument-good b (Date date) 0 recover-front refl, (f .0, (f .1, recover-valid .long)))
+    recover-asks p is = let f = state-file b id 1 (gate-rest (lentTests b body (Date date)) _ (rw e at g)) in rw is (lent-good b body (Date date) 0 recover-front refl, (f .0, (f .1, recover-valid .long)))
 
-  pub recover-refused : (n : ℕ) → Gate (recoverTests b id date) n → n ≢ 0 → Recovered b id date n b
-  recover-refused n g h = record { number = g; books = after-refused n _ b h }
+    pub recover-marks : (p : Places) → p ≡ placesOf b → Layout p (length b) × (((1 ≤ id) × (id ≤ p .indexes)) × HeaderInBody (tableAt p b id) (length body))
+    recover-marks p is = let a = recover-asks p is in mark-asks b body p id (a .0) (a .1 .0) recover-sized
 
-  pub recover-done : (n : ℕ) (p : Places) (b' : List ℕ) → Gate (recoverTests b id date) n → n ≡ 0 → p ≡ placesOf b → b' ≡ recovered p b id date → Recovered b id date 0 b'
-  recover-done n p b' g e is h = record { number = rw e at g; books = h ∙ ap (λ (q : Places). recovered q b id date) is }
+  pub recover-refused : (n : ℕ) → Gate (recoverTests b body id date) n → n ≢ 0 → Recovered b body id date n b body
+  recover-refused n g h = record { number = g; books = after-refused n _ b h; body'' = after-refused n _ body h }
+
+  pub recover-done : (n : ℕ) (p : Places) (b' body' : List ℕ) → Gate (recoverTests b body id date) n → n ≡ 0 → p ≡ placesOf b
+      → body' ≡ headerMarked (viewOf p b) id id body → b' ≡ recovered p b id date → Recovered b body id date 0 b' body'
+  recover-done n p b' body' g e is k h = record { number = rw e at g; books = h ∙ ap (λ (q : Places). recovered q b id date) is; body'' = rw (k, is) }
 
 -- ---- set protection
 
@@ -211,15 +237,15 @@ module _ (b : List ℕ) (id w : ℕ) (date : List ℕ) where
 
 -- ---- one result
 
-pub removed-one : (b : List ℕ) (id : ℕ) (date : List ℕ) (r s : ℕ) (x y : List ℕ) → Removed b id date r x → Removed b id date s y → (r ≡ s) × (x ≡ y)
-removed-one b id date r s x y h k =
-    let e = gate-one (removeTests b id date) r s (h .number) (k .number) in
-    (e, after-one r s x y _ b e (h .books) (k .books))
+pub removed-one : (b body : List ℕ) (id : ℕ) (date : List ℕ) (r s : ℕ) (x y m n : List ℕ) → Removed b body id date r x m → Removed b body id date s y n → (r ≡ s) × ((x ≡ y) × (m ≡ n))
+removed-one b body id date r s x y m n h k =
+    let e = gate-one (removeTests b body id date) r s (h .number) (k .number) in
+    (e, (after-one r s x y _ b e (h .books) (k .books), after-one r s m n _ body e (h .body'') (k .body'')))
 
-pub recovered-one : (b : List ℕ) (id : ℕ) (date : List ℕ) (r s : ℕ) (x y : List ℕ) → Recovered b id date r x → Recovered b id date s y → (r ≡ s) × (x ≡ y)
-recovered-one b id date r s x y h k =
-    let e = gate-one (recoverTests b id date) r s (h .number) (k .number) in
-    (e, after-one r s x y _ b e (h .books) (k .books))
+pub recovered-one : (b body : List ℕ) (id : ℕ) (date : List ℕ) (r s : ℕ) (x y m n : List ℕ) → Recovered b body id date r x m → Recovered b body id date s y n → (r ≡ s) × ((x ≡ y) × (m ≡ n))
+recovered-one b body id date r s x y m n h k =
+    let e = gate-one (recoverTests b body id date) r s (h .number) (k .number) in
+    (e, (after-one r s x y _ b e (h .books) (k .books), after-one r s m n _ body e (h .body'') (k .body'')))
 
 pub protected-one : (b : List ℕ) (id w : ℕ) (date : List ℕ) (r s : ℕ) (x y : List ℕ) → Protected b id w date r x → Protected b id w date s y → (r ≡ s) × (x ≡ y)
 protected-one b id w date r s x y h k =

@@ -9,7 +9,7 @@ use Rattle.tables.specs.Books.{placeTests}
 use Rattle.examination.specs.declared.fault.Fault.{Fault}
 use Rattle.examination.specs.declared.fault.Fault.the-variants.{Nothing, AtZone, AtSector, AtIndex, AtCount}
 use Rattle.examination.specs.Rulings.{rulings}
-use Rattle.examination.specs.Faults.{ruleOf, placeKindOf, placeOf, NamesFault}
+use Rattle.examination.specs.Faults.{ruleOf, placeKindOf, faultPlace, NamesFault}
 use Rattle.requests.specs.declared.broken_rule.Diagnosis.{Diagnosis}
 use Rattle.requests.specs.declared.broken_rule.Diagnosis.the-variants.{Found, Refused}
 use Rattle.requests.specs.declared.report.Text.{Text}
@@ -30,7 +30,7 @@ kindValue (Found f) = placeKindOf f
 kindValue (Refused n) = 0
 
 abbrev pub placeValue : Diagnosis → ℕ
-placeValue (Found f) = placeOf f
+placeValue (Found f) = faultPlace f
 placeValue (Refused n) = 0
 
 -- the answer of a number: with what was found where it is 0

@@ -10,6 +10,7 @@ pub mod Diagnosis
 pub mod Create
 pub mod Named
 pub mod Grow
+pub mod Header
 pub mod State
 pub mod Delete
 pub mod Active

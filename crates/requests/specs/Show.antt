@@ -2,9 +2,9 @@
 -- with the same arguments."
 use mathlib.Core.Path.{_≡_}
 use mathlib.Core.List.{List, [], _∷_, _++_}
-use Prim.Native.Nat.{ℕ, zero, suc}
+use Prim.Native.Nat.{ℕ, zero, suc, _*_}
 use Rattle.tables.specs.Gates.{Test, asks, Gate}
-use Rattle.files.specs.Moves.{bodyPlace, sectorContent}
+use Rattle.files.specs.Moves.{bodyPlace, sectorsContent}
 use Rattle.requests.specs.declared.show.Part.{Part}
 use Rattle.requests.specs.Answers.{useTests}
 use Rattle.requests.specs.Body.{bodyTest}
@@ -15,24 +15,24 @@ use Rattle.requests.specs.Named.{usableTests}
 unfoldable pub showTests : List ℕ → List ℕ → ℕ → ℕ → List Test
 showTests b body id k = useTests b ++ (bodyTest b body ∷ (usableTests 8 b id ++ (asks 14 (HasSector b id k) ∷ [])))
 
--- where the part lies in the body: 1,024 bytes where the number is 0, else none, at 0
-abbrev pub partOf : ℕ → ℕ → Part
-partOf zero s = record { at = bodyPlace s; len = 1024 }
-partOf (suc k) s = record { at = 0; len = 0 }
+-- where the part lies in the body: n sectors from s on where the number is 0, else none, at 0
+abbrev pub partOf : ℕ → ℕ → ℕ → Part
+partOf zero s n = record { at = bodyPlace s; len = 1024 * n }
+partOf (suc k) s n = record { at = 0; len = 0 }
 
 -- the promise of the place
 pub record ShownAt (b body : List ℕ) (id k : ℕ) (r : Part) : Type 0 where
   pub number : ℕ
   pub gate : Gate (showTests b body id k) number
-  pub part : r ≡ partOf number (kthOf b id k)
+  pub part : r ≡ partOf number (kthOf b id k) 1
 
 -- the part itself
-abbrev pub bytesOf : ℕ → List ℕ → ℕ → List ℕ
-bytesOf zero body s = sectorContent body s
-bytesOf (suc k) body s = []
+abbrev pub bytesOf : ℕ → List ℕ → ℕ → ℕ → List ℕ
+bytesOf zero body s n = sectorsContent body s n
+bytesOf (suc k) body s n = []
 
 -- show's promise
 pub record Shown (b body : List ℕ) (id k : ℕ) (part : List ℕ) : Type 0 where
   pub number : ℕ
   pub gate : Gate (showTests b body id k) number
-  pub bytes : part ≡ bytesOf number body (kthOf b id k)
+  pub bytes : part ≡ bytesOf number body (kthOf b id k) 1

@@ -1,16 +1,20 @@
 -- Temporary delete, recover and set protection: a file's attribute changes, with its change date and the latest update, and where the file
--- comes or goes sector 1's counts. Pointers and data stay.
+-- comes or goes sector 1's counts. Pointers and data stay; of a header the id tells whether its file is deleted: "Where the file has a header,
+-- temporary delete writes minus the file's id into its first four bytes in the body, recover writes the id" (W1).
 use mathlib.Core.Path.{_≡_}
 use mathlib.Core.List.{List, _++_}
 use Prim.Native.Nat.{ℕ, _+_, _-_, _*_, _/_, _%_, _≤_}
 use Rattle.tables.specs.declared.places.Places.{Places}
 use Rattle.tables.specs.Dates.{Date}
-use Rattle.tables.specs.Indexes.{tableAt, attributeOf, putChanged, putAttribute, directoryBit, systemBit}
+use Rattle.tables.specs.Indexes.{tableAt, attributeOf, putChanged, putAttribute, directoryBit, systemBit, minus}
 use Rattle.tables.specs.Places.{placesOf}
 use Rattle.tables.specs.Sector1.{activeOf, deletedOf, systemOf, directoryOf, putActive, putDeleted, putSystem, putDirectory, putLatest}
 use Rattle.tables.specs.Gates.{Test, Gate}
-use Rattle.requests.specs.Answers.{after, argumentTests}
-use Rattle.requests.specs.Named.{usableTests, askedTests}
+use Rattle.tables.specs.Views.{viewOf}
+use Rattle.files.specs.HeaderBytes.{headerMarked}
+use Rattle.requests.specs.Answers.{after}
+use Rattle.requests.specs.Body.{lentTests}
+use Rattle.requests.specs.Named.{stateTests, usableTests, askedTests}
 
 -- ---- the bytes
 
@@ -46,23 +50,29 @@ protected p b f w date = putState p b f (protectionOf (attributeOf (tableAt p b 
 
 -- ---- the promises
 
--- 1 to 5, 7, 8, 9, then 10 "if write-protected"
-unfoldable pub removeTests : List ℕ → ℕ → List ℕ → List Test
-removeTests b id date = argumentTests b (Date date) ++ usableTests 4 b id
+-- the body with w in the first four bytes of the file's header, where it has one
+abbrev pub markedBody : List ℕ → ℕ → ℕ → List ℕ → List ℕ
+markedBody b id w body = headerMarked (viewOf (placesOf b) b) id w body
+
+-- 1 to 5, 7, 15, 8, 9, then 10 "if write-protected"
+unfoldable pub removeTests : List ℕ → List ℕ → ℕ → List ℕ → List Test
+removeTests b body id date = lentTests b body (Date date) ++ usableTests 4 b id
 
 -- temporary delete's promise
-pub record Removed (b : List ℕ) (id : ℕ) (date : List ℕ) (r : ℕ) (b' : List ℕ) : Type 0 where
-  pub number : Gate (removeTests b id date) r
+pub record Removed (b body : List ℕ) (id : ℕ) (date : List ℕ) (r : ℕ) (b' body' : List ℕ) : Type 0 where
+  pub number : Gate (removeTests b body id date) r
   pub books : b' ≡ after r (removed (placesOf b) b id date) b
+  pub body'' : body' ≡ after r (markedBody b id (minus id) body) body
 
--- 1 to 5, 7, then 8 and 9: "Recover and actual delete need a deleted file"
-unfoldable pub recoverTests : List ℕ → ℕ → List ℕ → List Test
-recoverTests b id date = askedTests 1 b (Date date) id
+-- 1 to 5, 7, 15, then 8 and 9: "Recover and actual delete need a deleted file"
+unfoldable pub recoverTests : List ℕ → List ℕ → ℕ → List ℕ → List Test
+recoverTests b body id date = lentTests b body (Date date) ++ stateTests 1 b id
 
 -- recover's promise
-pub record Recovered (b : List ℕ) (id : ℕ) (date : List ℕ) (r : ℕ) (b' : List ℕ) : Type 0 where
-  pub number : Gate (recoverTests b id date) r
+pub record Recovered (b body : List ℕ) (id : ℕ) (date : List ℕ) (r : ℕ) (b' body' : List ℕ) : Type 0 where
+  pub number : Gate (recoverTests b body id date) r
   pub books : b' ≡ after r (recovered (placesOf b) b id date) b
+  pub body'' : body' ≡ after r (markedBody b id id body) body
 
 -- "Set protection takes 0, 4, 8 or 12, else 7"
 pub record ProtectAllowed (w : ℕ) (date : List ℕ) : Type 0 where

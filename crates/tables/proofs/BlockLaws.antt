@@ -10,26 +10,23 @@ use lib.ListN.{getD}
 use borrow.Author.Tests.{le-leb, lt-leb}
 use Rattle.field.specs.Sum.{sumTo}
 use Rattle.field.proofs.Sums.{sum-zero, sum-one, sum-cut}
-use Rattle.tables.specs.Blocks.{ZoneType, isZoneType, DataType, blockSizes, blockOf, Block, Whole}
+use Rattle.tables.specs.Blocks.{ZoneType, isZoneType, DataType, headerType, blockSizes, blockOf, Block, Whole}
 
 -- ---- types of zones
 
--- files lie in zones of every type that a zone may have, and of no other
+-- a zone may have every type of the zones in which files lie
 pub data-zone : {t : ℕ} → DataType t → ZoneType t
-data-zone d = record { low = d .low; high = d .high }
-
-pub zone-data : {t : ℕ} → ZoneType t → DataType t
-zone-data d = record { low = d .low; high = d .high }
+data-zone d = record { low = omega (arith, d .low); high = d .high }
 
 pub zone-type : (t : ℕ) → ZoneType t → isZoneType t ≡ true
 unfolding isZoneType
-zone-type t h = rw (le-leb 3 t (h .low), le-leb t 8 (h .high))
+zone-type t h = rw (le-leb 2 t (h .low), le-leb t 8 (h .high))
 
 pub no-zone-type : (t : ℕ) → (ZoneType t → ⊥) → isZoneType t ≡ false
 unfolding isZoneType
-no-zone-type t h = elim (decLe 3 t) [
-  | no l ↦ rw (lt-leb 3 t (omega arith))
-  | yes l ↦ elim (decLe t 8) [ yes m ↦ absurd (h (record { low = l; high = m })) | no m ↦ rw (le-leb 3 t l, lt-leb t 8 (omega arith)) ]
+no-zone-type t h = elim (decLe 2 t) [
+  | no l ↦ rw (lt-leb 2 t (omega arith))
+  | yes l ↦ elim (decLe t 8) [ yes m ↦ absurd (h (record { low = l; high = m })) | no m ↦ rw (le-leb 2 t l, lt-leb t 8 (omega arith)) ]
 ]
 
 -- what holds of the types C to H holds of every type in which files lie
@@ -52,10 +49,14 @@ six P c d e f g h t typed =
       ]
     ]
 
--- the six sizes, by computation
+-- and with type B of every type that a zone may have
+seven : (P : ℕ → Type 0) → P 2 → ((t : ℕ) → DataType t → P t) → (t : ℕ) → ZoneType t → P t
+seven P b others t typed = elim (ℕ-discrete t 2) [ yes q ↦ subst P (sym q) b | no ne ↦ others t (record { low = omega (arith, typed .low); high = typed .high }) ]
+
+-- the sizes, by computation
 pub block-of : (t : ℕ) → ZoneType t → Block (blockOf t)
 unfolding blockOf
-block-of t typed = six (λ t. Block (blockOf t)) (one tt refl) (one tt refl) (one tt refl) (one tt refl) (one tt refl) (one tt refl) t (zone-data typed)
+block-of = seven (λ t. Block (blockOf t)) (one tt refl) (six (λ t. Block (blockOf t)) (one tt refl) (one tt refl) (one tt refl) (one tt refl) (one tt refl) (one tt refl))
   where
     one : {size : ℕ} → T (ltb 0 size) → 1024 / size * size ≡ 1024 → Block size
     one l e = record { some = lit< l; whole = e }
@@ -63,7 +64,7 @@ block-of t typed = six (λ t. Block (blockOf t)) (one tt refl) (one tt refl) (on
 -- no block is empty, whatever the number
 pub block-some : (t : ℕ) → 0 < blockOf t
 unfolding blockOf
-block-some t = go (t - 3)
+block-some t = go (t - 2)
   where
     go : (n : ℕ) → 0 < getD blockSizes n 1
     go zero = lit< tt
@@ -72,7 +73,8 @@ block-some t = go (t - 3)
     go (suc (suc (suc zero))) = lit< tt
     go (suc (suc (suc (suc zero)))) = lit< tt
     go (suc (suc (suc (suc (suc zero))))) = lit< tt
-    go (suc (suc (suc (suc (suc (suc n)))))) = lit< tt
+    go (suc (suc (suc (suc (suc (suc zero)))))) = lit< tt
+    go (suc (suc (suc (suc (suc (suc (suc n))))))) = lit< tt
 
 -- those of files' zones among them
 pub data-block : (t : ℕ) → DataType t → Block (blockOf t)
@@ -80,7 +82,12 @@ data-block t typed = block-of t (data-zone typed)
 
 pub block-few : (t : ℕ) → ZoneType t → blockOf t ≤ 1024
 unfolding blockOf
-block-few t typed = six (λ t. blockOf t ≤ 1024) (lit≤ tt) (lit≤ tt) (lit≤ tt) (lit≤ tt) (lit≤ tt) (lit≤ tt) t (zone-data typed)
+block-few = seven (λ t. blockOf t ≤ 1024) (lit≤ tt) (six (λ t. blockOf t ≤ 1024) (lit≤ tt) (lit≤ tt) (lit≤ tt) (lit≤ tt) (lit≤ tt) (lit≤ tt))
+
+-- a header zone's blocks are of one sector
+pub header-block : (t : ℕ) → t ≡ headerType → (1 ≡ blockOf t) × Block 1
+unfolding blockOf
+header-block t e = rw e (refl, record { some = lit< tt; whole = refl })
 
 -- a block of so many ends before the next begins
 pub block-end : (i count size : ℕ) → i < count → i * size + size ≤ count * size
@@ -90,12 +97,12 @@ block-end i count size lt = omega (arith, mul-le-mul-right {m = i + 1} {n = coun
 pub block-in : (k size : ℕ) → Block size → k < 1024 / size → k * size + size ≤ 1024
 block-in k size b l = omega (arith, block-end k (1024 / size) size l, b .whole)
 
--- four times as many sectors from each type to the next, by a shift
-pub size-shift : (t : ℕ) → ZoneType t → ((1 * 2 ^ (2 * (t - 3))) % 2 ^ 32 ≡ blockOf t) × Block ((1 * 2 ^ (2 * (t - 3))) % 2 ^ 32)
+-- from type C on four times as many sectors from each type to the next, by a shift
+pub size-shift : (t : ℕ) → DataType t → ((1 * 2 ^ (2 * (t - 3))) % 2 ^ 32 ≡ blockOf t) × Block ((1 * 2 ^ (2 * (t - 3))) % 2 ^ 32)
 unfolding blockOf
 size-shift t typed =
-    let e : (1 * 2 ^ (2 * (t - 3))) % 2 ^ 32 ≡ blockOf t = six (λ t. (1 * 2 ^ (2 * (t - 3))) % 2 ^ 32 ≡ blockOf t) refl refl refl refl refl refl t (zone-data typed) in
-    (e, subst Block (sym e) (block-of t typed))
+    let e : (1 * 2 ^ (2 * (t - 3))) % 2 ^ 32 ≡ blockOf t = six (λ t. (1 * 2 ^ (2 * (t - 3))) % 2 ^ 32 ≡ blockOf t) refl refl refl refl refl refl t typed in
+    (e, subst Block (sym e) (data-block t typed))
 
 -- ---- clear blocks counted by the bits that are set
 

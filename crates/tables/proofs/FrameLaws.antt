@@ -15,8 +15,8 @@ use Rattle.tables.specs.Sector1.{indexesOf, firstFreeOf}
 use Rattle.tables.specs.Places.{placesOf, Layout}
 use Rattle.tables.specs.Zones.{zoneAt}
 use Rattle.tables.specs.Sectors.{sectorAt}
-use Rattle.tables.specs.Indexes.{tableAt}
-use Rattle.tables.specs.Views.{viewOf}
+use Rattle.tables.specs.Indexes.{tableAt, wordOf, headerStart, headerCount}
+use Rattle.tables.specs.Views.{View, viewOf, headerOver}
 use Rattle.tables.specs.Same.{Same}
 use Rattle.tables.specs.Rules.R1.{Tails}
 use Rattle.tables.specs.Rules.R6.{HeaderLaw}
@@ -41,8 +41,19 @@ table-kept {b} {b'} {o} {n} p i k a =
         ∙ sym (getD-part b (p .indextable + 128 * (i - 1)) 128 j l)
 
 -- what is written apart from the header pointer leaves its law
-pub header-kept : {t t' : List ℕ} {o n : ℕ} → Kept t t' o n → Apart 58 6 o n → HeaderLaw t → HeaderLaw t'
-header-kept k a h = record { zero = λ j l. k .out (58 + j) (⊎-elim (λ q. inl (omega arith)) (λ q. inr (omega arith)) a) ∙ h .zero j l }
+pub header-start-kept : {t t' : List ℕ} {o n : ℕ} → Kept t t' o n → Apart 58 6 o n → headerStart t' ≡ headerStart t
+header-start-kept k a = u32-kept 58 k (⊎-elim (λ q. inl (omega arith)) (λ q. inr (omega arith)) a)
+
+pub header-count-kept : {t t' : List ℕ} {o n : ℕ} → Kept t t' o n → Apart 58 6 o n → headerCount t' ≡ headerCount t
+header-count-kept k a = u16-kept 62 k (⊎-elim (λ q. inl (omega arith)) (λ q. inr (omega arith)) a)
+
+pub header-kept : {v : View} {t t' : List ℕ} {o n : ℕ} → Kept t t' o n → Apart 58 6 o n → HeaderLaw v t → HeaderLaw v t'
+header-kept k a h = record { run = λ u. rw (header-start-kept k a, header-count-kept k a) (h .run (rw (header-start-kept k a, header-count-kept k a) at u)) }
+
+-- nor what it is over
+pub header-over-kept : {t t' : List ℕ} {o n : ℕ} (i s : ℕ) → Kept t t' o n → Apart 58 6 o n → wordOf t' ≡ wordOf t → headerOver i t' s ≡ headerOver i t s
+unfolding headerOver
+header-over-kept i s k a e = rw (header-start-kept k a, header-count-kept k a, e)
 
 -- ---- writes into sector 1
 

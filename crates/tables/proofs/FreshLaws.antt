@@ -123,7 +123,7 @@ module _ (v : View) (f : Fresh v) where
 
   pub fresh-R7 : R7 v
   unfolding claimsOver
-  fresh-R7 = record { count = λ s l lo. omega (arith, none (λ i t. claimsOf i t s) (λ i t h e. over-none i t s e), f .clear s l lo) }
+  fresh-R7 = record { count = λ s l lo. omega (arith, none (λ i t. claimsOf i t s) (λ i t h e. over-none i t s h e), f .clear s l lo) }
 
   pub fresh-R8 : R8 v
   fresh-R8 p l lo e = absurd (omega (arith, f .words p lo (omega arith)))

@@ -1,16 +1,16 @@
--- Sectors under pointers: a run as a function that is 1 on it, and what R7's count says of single pointers.
-use mathlib.Core.Path.{_≡_, refl}
-use mathlib.Core.Logic.{_⊎_, inl, inr, ⊎-elim}
+-- Sectors under pointers and header pointers: a run as a function that is 1 on it, and what R7's count says of single ones.
+use mathlib.Core.Path.{_≡_, _∙_}
+use mathlib.Core.Logic.{_⊎_, inl, inr, ⊎-elim, _≢_}
 use mathlib.Core.List.{List}
 use Prim.Native.Nat.{ℕ, _+_, _-_, _*_, _≤_, _<_}
 use native.Mathlib.Decide.{ℕ-discrete, decLt, decLe}
 use native.Mathlib.Omega.{arith}
-use borrow.Author.Tests.{le-leb, lt-leb, lt-ltb, le-ltb}
-use Rattle.field.proofs.Sums.{sum-zero, sum-some, sum-single, sum-part, sum-once}
-use Rattle.tables.specs.Indexes.{wordOf, slotsOf, startOf, countOf}
-use Rattle.tables.specs.Views.{View, cov, overOf, tally, pointersOver, claimsOf, claimsOver, Under}
-use Rattle.tables.specs.Rules.R6.{R6}
-use Rattle.tables.specs.Rules.R7.{Owned, R7}
+use borrow.Author.Tests.{le-leb, lt-leb, lt-ltb, le-ltb, eq-eqb, ne-eqb}
+use Rattle.field.proofs.Sums.{sum-zero, sum-some, sum-single, sum-part, sum-once, sum-add}
+use Rattle.tables.specs.Indexes.{wordOf, slotsOf, startOf, countOf, headerStart, headerCount}
+use Rattle.tables.specs.Views.{View, onlyIf, cov, overOf, tally, pointersOver, headerOver, headersOver, claimsOf, claimsOver, Under, UnderHeader}
+use Rattle.tables.specs.Rules.R6.{HeaderRun, R6}
+use Rattle.tables.specs.Rules.R7.{Owned, R7, Owner, SectorWords}
 use Rattle.tables.proofs.IndexLaws.{slots-free}
 
 -- ---- runs
@@ -94,57 +94,147 @@ module _ (v : View) (s : ℕ) where
             j (u .slot) (omega (arith, cov-in _ _ s (u .from) (u .to))) l (w' .slot) (omega (arith, cov-in _ _ s (w' .from) (w' .to))),
       )
 
+-- ---- header pointers
+
+-- what a header pointer is over, seen and met: a table's own, which is a parent's
+module _ (i : ℕ) (t : List ℕ) (s : ℕ) where
+  pub header-over : wordOf t ≡ i → headerOver i t s ≡ cov (headerStart t) (headerCount t) s
+  unfolding headerOver onlyIf
+  header-over e = rw (eq-eqb (wordOf t) i e)
+
+  pub header-other : wordOf t ≢ i → headerOver i t s ≡ 0
+  unfolding headerOver onlyIf
+  header-other ne = rw (ne-eqb (wordOf t) i ne)
+
+  pub header-least : headerOver i t s ≤ 1
+  header-least = elim (ℕ-discrete (wordOf t) i) [
+    | yes e ↦ ⊎-elim (λ h. omega (arith, header-over e, h .one)) (λ z. omega (arith, header-over e)) (cov-cases (headerStart t) (headerCount t) s)
+    | no ne ↦ omega (arith, header-other ne)
+  ]
+
+module _ (v : View) (s : ℕ) where
+  headed-at : (i : ℕ) → UnderHeader v i s → headerOver i (v .table i) s ≡ 1
+  headed-at i u = header-over i (v .table i) s (u .parent .word) ∙ cov-in _ _ s (u .from) (u .to)
+
+  at-headed : (i : ℕ) → 1 ≤ i → i ≤ v .indexes → 0 < headerOver i (v .table i) s → UnderHeader v i s
+  at-headed i lo hi h = elim (ℕ-discrete (wordOf (v .table i)) i) [
+    | yes e ↦ ⊎-elim (λ c. record { parent = record { low = lo; high = hi; word = e }; from = c .low; to = c .high })
+        (λ z. absurd (omega (arith, header-over i (v .table i) s e))) (cov-cases (headerStart (v .table i)) (headerCount (v .table i)) s)
+    | no ne ↦ absurd (omega (arith, header-other i (v .table i) s ne))
+  ]
+
+  pub header-counts : (i : ℕ) → UnderHeader v i s → 0 < headersOver v s
+  unfolding headersOver tally
+  header-counts i u =
+      let a : i - 1 + 1 ≡ i = omega (arith, u .parent .low) in
+      omega (arith, headed-at i u, rw a at (sum-part (v .indexes) (i - 1) (λ n. headerOver (n + 1) (v .table (n + 1)) s) (omega (arith, u .parent .low, u .parent .high))))
+
+  pub header-some : 0 < headersOver v s → (i : ℕ) × UnderHeader v i s
+  unfolding headersOver tally
+  header-some h = let o = sum-some (v .indexes) _ h in (o .0 + 1, at-headed (o .0 + 1) (omega arith) (omega (arith, o .1)) (o .2))
+
+  pub header-one : headersOver v s ≤ 1 → (i k : ℕ) → UnderHeader v i s → UnderHeader v k s → i ≡ k
+  unfolding headersOver tally
+  header-one h i k u w =
+      let a : i - 1 + 1 ≡ i = omega (arith, u .parent .low) in
+      let b : k - 1 + 1 ≡ k = omega (arith, w .parent .low) in
+      let p : 0 < headerOver (i - 1 + 1) (v .table (i - 1 + 1)) s = rw a (omega (arith, headed-at i u)) in
+      let q : 0 < headerOver (k - 1 + 1) (v .table (k - 1 + 1)) s = rw b (omega (arith, headed-at k w)) in
+      let e : i - 1 ≡ k - 1 = sum-single (v .indexes) (λ n. headerOver (n + 1) (v .table (n + 1)) s) h (i - 1) (omega (arith, u .parent .low, u .parent .high)) p
+      (k - 1) (omega (arith, w .parent .low, w .parent .high)) q in
+      omega (arith, u .parent .low, w .parent .low)
+
+  pub headers-once : ((i k : ℕ) → UnderHeader v i s → UnderHeader v k s → i ≡ k) → headersOver v s ≤ 1
+  unfolding headersOver tally
+  headers-once one =
+      sum-once (v .indexes) (λ n. headerOver (n + 1) (v .table (n + 1)) s) (λ n l. header-least (n + 1) (v .table (n + 1)) s) (λ n l m k hn hm.
+      (let e : n + 1 ≡ m + 1 = one (n + 1) (m + 1) (at-headed (n + 1) (omega arith) (omega arith) hn) (at-headed (m + 1) (omega arith) (omega arith) hm) in
+      omega arith))
+
 -- ---- claims
 
 module _ (v : View) (s : ℕ) where
-  -- pointers are the only claims
-  pub claims-are : claimsOver v s ≡ pointersOver v s
-  unfolding claimsOver claimsOf pointersOver
-  claims-are = refl
+  -- pointers and header pointers are the claims
+  pub claims-are : claimsOver v s ≡ pointersOver v s + headersOver v s
+  unfolding claimsOver claimsOf pointersOver headersOver tally
+  claims-are = sum-add (v .indexes) (λ k. overOf (k + 1) (v .table (k + 1)) s) (λ k. headerOver (k + 1) (v .table (k + 1)) s)
 
-  -- what lies under a pointer is claimed
+  -- what lies under a pointer is claimed, and what lies under a header pointer
   pointers-le : pointersOver v s ≤ claimsOver v s
   pointers-le = omega (arith, claims-are)
 
   pub under-claims : (i j : ℕ) → Under v i j s → 0 < claimsOver v s
   under-claims i j u = omega (arith, under-counts v s i j u, pointers-le)
 
-  pub claimed-under : 0 < claimsOver v s → (i : ℕ) × (j : ℕ) × Under v i j s
-  claimed-under h = under-some v s (omega (arith, claims-are))
+  pub header-claims : (i : ℕ) → UnderHeader v i s → 0 < claimsOver v s
+  header-claims i u = omega (arith, header-counts v s i u, claims-are)
+
+  -- nothing else is
+  pub claimed-owner : 0 < claimsOver v s → Owner v s
+  claimed-owner h = elim (decLt 0 (pointersOver v s)) [ yes p ↦ inl (under-some v s p) | no p ↦ inr (header-some v s (omega (arith, claims-are))) ]
 
 -- a free table claims no sector
-pub over-none : (i : ℕ) (t : List ℕ) (s : ℕ) → wordOf t ≡ 0 → claimsOf i t s ≡ 0
+pub over-none : (i : ℕ) (t : List ℕ) (s : ℕ) → 1 ≤ i → wordOf t ≡ 0 → claimsOf i t s ≡ 0
 unfolding claimsOf overOf
-over-none i t s e = sum-zero (slotsOf i t) _ (λ k l. absurd (omega (arith, slots-free i t e)))
+over-none i t s low e =
+    let none : overOf i t s ≡ 0 = sum-zero (slotsOf i t) _ (λ k l. absurd (omega (arith, slots-free i t e))) in
+    omega (arith, header-other i t s (λ z. omega arith))
 
 -- ---- R7 in the paper's words
 
-module _ (v : View) {extra : ℕ → ℕ} (r6 : R6 v) (r7 : Owned v extra) (bits : (s : ℕ) → v .bit s < 2) where
-  -- what lies under a pointer lies outside zones 1 and Z
-  pub under-inside : (i j s : ℕ) → Under v i j s → (1024 ≤ s) × (s < 1024 * (v .zones - 1))
-  under-inside i j s u =
+module _ (v : View) (r6 : R6 v) where
+  -- what lies under a pointer or a header pointer lies outside zones 1 and Z
+  pub pointer-inside : (i j s : ℕ) → Under v i j s → (1024 ≤ s) × (s < 1024 * (v .zones - 1))
+  pointer-inside i j s u =
       let run = r6 i (omega (arith, u .high)) (u .low) .used j (u .slot) (omega (arith, u .from, u .to)) in
       (omega (arith, run .low, u .from), omega (arith, run .high, u .to))
 
-  -- "No sector is under two pointers."
+  -- the run that a header's sector is one of
+  pub header-run : (i s : ℕ) → UnderHeader v i s → HeaderRun v (headerStart (v .table i)) (headerCount (v .table i))
+  header-run i s u = r6 i (omega (arith, u .parent .high)) (u .parent .low) .header (u .parent .word) .run (omega (arith, u .from, u .to))
+
+  pub header-inside : (i s : ℕ) → UnderHeader v i s → (1024 ≤ s) × (s < 1024 * (v .zones - 1))
+  header-inside i s u = let run = header-run i s u in (omega (arith, run .low, u .from), omega (arith, run .high, u .to))
+
+  pub claimed-inside : (s : ℕ) → 0 < claimsOver v s → (1024 ≤ s) × (s < 1024 * (v .zones - 1))
+  claimed-inside s h = ⊎-elim (λ u. pointer-inside (u .0) (u .1) s (u .2)) (λ u. header-inside (u .0) s (u .1)) (claimed-owner v s h)
+
+module _ (v : View) {extra : ℕ → ℕ} (r6 : R6 v) (r7 : Owned v extra) (bits : (s : ℕ) → v .bit s < 2) where
+  pub under-inside : (i j s : ℕ) → Under v i j s → (1024 ≤ s) × (s < 1024 * (v .zones - 1))
+  under-inside = pointer-inside v r6
+
+  -- as many claims as the bit at most
+  few : (s : ℕ) → (1024 ≤ s) × (s < 1024 * (v .zones - 1)) → pointersOver v s + headersOver v s ≤ 1
+  few s h = omega (arith, r7 .count s (h .1) (h .0), bits s, claims-are v s)
+
+  -- "No sector is under two pointers.", nor under two header pointers, nor under one of each
   pub one-pointer : (s i j k l : ℕ) → Under v i j s → Under v k l s → (i ≡ k) × (j ≡ l)
-  one-pointer s i j k l u w =
-      let h = under-inside i j s u in
-      under-one v s (omega (arith, r7 .count s (h .1) (h .0), bits s, pointers-le v s)) i j u k l w
+  one-pointer s i j k l u w = under-one v s (omega (arith, few s (under-inside i j s u))) i j u k l w
 
-  -- "the set bits are exactly the sectors under pointers", and those that are set besides
-  pub set-under : (s : ℕ) → s < 1024 * (v .zones - 1) → 1024 ≤ s → v .bit s ≡ 1 → extra s ≡ 0 → (i : ℕ) × (j : ℕ) × Under v i j s
-  set-under s l h e none = claimed-under v s (omega (arith, r7 .count s l h))
+  pub one-header : (s i k : ℕ) → UnderHeader v i s → UnderHeader v k s → i ≡ k
+  one-header s i k u w = header-one v s (omega (arith, few s (header-inside v r6 i s u))) i k u w
 
-  pub extra-set : (s : ℕ) → s < 1024 * (v .zones - 1) → 1024 ≤ s → 0 < extra s → (v .bit s ≡ 1) × ((i j : ℕ) → Under v i j s → ⊥)
+  pub pointer-apart : (s i j k : ℕ) → Under v i j s → UnderHeader v k s → ⊥
+  pointer-apart s i j k u w = omega (arith, few s (under-inside i j s u), under-counts v s i j u, header-counts v s k w)
+
+  -- "the set bits are exactly the sectors under pointers", and under header pointers, and those that are set besides
+  pub set-owned : (s : ℕ) → s < 1024 * (v .zones - 1) → 1024 ≤ s → v .bit s ≡ 1 → extra s ≡ 0 → Owner v s
+  set-owned s l h e none = claimed-owner v s (omega (arith, r7 .count s l h))
+
+  pub extra-set : (s : ℕ) → s < 1024 * (v .zones - 1) → 1024 ≤ s → 0 < extra s → (v .bit s ≡ 1) × (Owner v s → ⊥)
   extra-set s l h some =
       let q = r7 .count s l h in
-      (omega (arith, bits s), λ i j u. omega (arith, bits s, under-claims v s i j u))
+      (omega (arith, bits s), ⊎-elim (λ u. omega (arith, bits s, under-claims v s (u .0) (u .1) (u .2))) (λ u. omega (arith, bits s, header-claims v s (u .0) (u .1))))
 
   pub under-set : (s i j : ℕ) → Under v i j s → v .bit s ≡ 1
   under-set s i j u =
       let h = under-inside i j s u in
       omega (arith, r7 .count s (h .1) (h .0), bits s, under-claims v s i j u)
+
+  pub header-set : (s i : ℕ) → UnderHeader v i s → v .bit s ≡ 1
+  header-set s i u =
+      let h = header-inside v r6 i s u in
+      omega (arith, r7 .count s (h .1) (h .0), bits s, header-claims v s i u)
 
 -- ---- the paper's words give the counting form
 
@@ -174,25 +264,34 @@ module _ (v : View) (s : ℕ) (one : (i j k l : ℕ) → Under v i j s → Under
       let e : n + 1 ≡ m + 1 = one (n + 1) (a .0) (m + 1) (b .0) (a .1) (b .1) .0 in
       omega arith))
 
--- with nothing set besides, R7 says that as many pointers lie over a sector as its bit is, and nothing else
-pub R7-pointers : (v : View) → R7 v → (s : ℕ) → s < 1024 * (v .zones - 1) → 1024 ≤ s → pointersOver v s ≡ v .bit s
-R7-pointers v r s l lo = omega (arith, r .count s l lo, claims-are v s)
-
-pub pointers-R7 : (v : View) → ((s : ℕ) → s < 1024 * (v .zones - 1) → 1024 ≤ s → pointersOver v s ≡ v .bit s) → R7 v
-pointers-R7 v h = record { count = λ s l lo. omega (arith, h s l lo, claims-are v s) }
-
--- R7 follows from "No sector is under two pointers. Outside zones 1 and Z the set bits are exactly the sectors under pointers."
-pub words-R7 : (v : View) → ((s : ℕ) → v .bit s < 2) → ((s i j k l : ℕ) → Under v i j s → Under v k l s → (i ≡ k) × (j ≡ l))
-    → ((s : ℕ) → s < 1024 * (v .zones - 1) → 1024 ≤ s → v .bit s ≡ 1 → (i : ℕ) × (j : ℕ) × Under v i j s)
-    → ((s i j : ℕ) → s < 1024 * (v .zones - 1) → 1024 ≤ s → Under v i j s → v .bit s ≡ 1) → R7 v
-words-R7 v bits one set under = pointers-R7 v count
-  where
-    count : (s : ℕ) → s < 1024 * (v .zones - 1) → 1024 ≤ s → pointersOver v s ≡ v .bit s
-    count s l lo =
-        elim (ℕ-discrete (v .bit s) 1) [
-          | yes e ↦ (let u = set s l lo e in omega (arith, over-once v s (one s), under-counts v s (u .0) (u .1) (u .2)))
-          | no ne ↦ elim (decLt 0 (pointersOver v s)) [
-            | yes h ↦ (let u = under-some v s h in absurd (ne (under s (u .0) (u .1) l lo (u .2))))
-            | no h ↦ (let z : v .bit s ≡ 0 = omega (arith, bits s) in omega arith)
+module _ (v : View) (s : ℕ) (bit : v .bit s < 2) where
+  -- the words at a sector are the count, and nothing else
+  pub words-count : SectorWords v s → claimsOver v s ≡ v .bit s
+  words-count w =
+      let once = over-once v s (w .one) in
+      let headers = headers-once v s (w .header) in
+      elim (decLt 0 (pointersOver v s)) [
+        | yes p ↦ (let u = under-some v s p in
+            elim (decLt 0 (headersOver v s)) [ yes q ↦ (let h = header-some v s q in absurd (w .apart (u .0) (u .1) (h .0) (u .2) (h .1))) | no q ↦ omega (arith, w .under (u .0) (u .1) (u .2), claims-are v s) ])
+        | no p ↦ elim (decLt 0 (headersOver v s)) [
+          | yes q ↦ (let h = header-some v s q in omega (arith, w .headed (h .0) (h .1), claims-are v s))
+          | no q ↦ elim (ℕ-discrete (v .bit s) 1) [
+            | yes e ↦ absurd (⊎-elim (λ u. omega (arith, under-counts v s (u .0) (u .1) (u .2))) (λ u. omega (arith, header-counts v s (u .0) (u .1))) (w .set e))
+            | no ne ↦ omega (arith, claims-are v s)
           ]
         ]
+      ]
+
+  pub count-words : claimsOver v s ≡ v .bit s → SectorWords v s
+  count-words e = record {
+    one = λ i j k l u w. under-one v s (omega (arith, claims-are v s)) i j u k l w;
+    header = λ i k u w. header-one v s (omega (arith, claims-are v s)) i k u w;
+    apart = λ i j k u w. omega (arith, claims-are v s, under-counts v s i j u, header-counts v s k w);
+    set = λ h. claimed-owner v s (omega arith);
+    under = λ i j u. omega (arith, under-claims v s i j u);
+    headed = λ i u. omega (arith, header-claims v s i u);
+  }
+
+-- R7 follows from the words at each sector outside zones 1 and Z
+pub words-R7 : (v : View) → ((s : ℕ) → v .bit s < 2) → ((s : ℕ) → s < 1024 * (v .zones - 1) → 1024 ≤ s → SectorWords v s) → R7 v
+words-R7 v bits h = record { count = λ s l lo. omega (arith, words-count v s (bits s) (h s l lo)) }

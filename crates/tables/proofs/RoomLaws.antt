@@ -10,7 +10,7 @@ use lib.Dec.{eqb, leb, ltb}
 use borrow.Author.Tests.{eqb-true, eq-eqb, ne-eqb, leb-true, ltb-true, le-leb, lt-ltb}
 use Rattle.field.specs.Sum.{sumTo}
 use Rattle.field.proofs.Sums.{sum-same, sum-full}
-use Rattle.tables.proofs.BlockLaws.{zone-data, block-of, data-block, block-in}
+use Rattle.tables.proofs.BlockLaws.{block-of, data-block, block-in}
 use Rattle.tables.proofs.ChoiceLaws.{count, under, fit, size, begun, firsts, lack, handed, choice-needs, choice-enough, owner-low, owner-high}
 use Rattle.tables.proofs.LackLaws.{some-blocks}
 use Rattle.tables.proofs.OpenLaws.{open-untyped, open-typed}
@@ -160,64 +160,66 @@ module _ (v : View) where
       chosen = firsts opens types frees perZone gave c
 
       abbrev taken : ℕ → ℕ → Bool
-      taken z k = leb 2 z && (ltb z (v .zones) && (ltb k (perZone (typeIn v given z)) && chosen (z - 2) k))
+      taken z k = leb 2 z && (ltb z (v .zones) && (ltb k (perZone (typeIn v given z)) && (leb 3 (typeIn v given z) && chosen (z - 2) k)))
 
       given-typed : (z : ℕ) → DataType (given z)
       given-typed z = record { low = owner-low _ 6 _; high = owner-high _ 5 _ }
 
-      in-typed : (z : ℕ) → 2 ≤ z → z < v .zones → DataType (typeIn v given z)
-      in-typed z lo hi = go (isOpen (v .zone z)) refl
+      in-typed : (z : ℕ) → 2 ≤ z → z < v .zones → 3 ≤ typeIn v given z → DataType (typeIn v given z)
+      in-typed z lo hi least = record { low = least; high = go (isOpen (v .zone z)) refl }
         where
-          go : (o : Bool) → isOpen (v .zone z) ≡ o → DataType (typeIn v given z)
-          go true h = rw (type-open v given z h) (given-typed z)
-          go false h = rw (type-begun v given z h) (zone-data (begun-typed v r2 z lo hi h))
+          go : (o : Bool) → isOpen (v .zone z) ≡ o → typeIn v given z ≤ 8
+          go true h = rw (type-open v given z h) (given-typed z .high)
+          go false h = rw (type-begun v given z h) (begun-typed v r2 z lo hi h .high)
 
-      free-here : (i k : ℕ) → i < v .zones - 2 → k < perZone (typeIn v given (i + 2)) → chosen i k ≡ true → FreeBlock v given (i + 2) k
-      free-here i k hi w h = record {
+      free-here : (i k : ℕ) → i < v .zones - 2 → k < perZone (typeIn v given (i + 2)) → 3 ≤ typeIn v given (i + 2) → chosen i k ≡ true → FreeBlock v given (i + 2) k
+      free-here i k hi w least h = record {
         low = omega arith;
         high = omega arith;
-        typed = in-typed (i + 2) (omega arith) (omega arith);
+        typed = in-typed (i + 2) (omega arith) (omega arith) least;
         within = w;
-        clear = fits-clear i k (typeIn v given (i + 2)) hi (in-typed (i + 2) (omega arith) (omega arith)) (type-begun v given (i + 2)) w (and-eq-true-iff (fit opens types frees perZone i k) _ .0 h .0);
+        clear = fits-clear i k (typeIn v given (i + 2)) hi (in-typed (i + 2) (omega arith) (omega arith) least) (type-begun v given (i + 2)) w (and-eq-true-iff (fit opens types frees perZone i k) _ .0 h .0);
       }
 
       taken-free : (z k : ℕ) → taken z k ≡ true → FreeBlock v given z k
       taken-free z k h =
-          let a = all-four (leb 2 z) (ltb z (v .zones)) (ltb k (perZone (typeIn v given z))) (chosen (z - 2) k) h in
+          let a = all-four (leb 2 z) (ltb z (v .zones)) (ltb k (perZone (typeIn v given z))) (leb 3 (typeIn v given z) && chosen (z - 2) k) h in
+          let d = and-eq-true-iff (leb 3 (typeIn v given z)) (chosen (z - 2) k) .0 (a .3) in
+          let least = leb-true 3 (typeIn v given z) (d .0) in
           let lo = leb-true 2 z (a .0) in
           let hi = ltb-true z (v .zones) (a .1) in
           let w = ltb-true k (perZone (typeIn v given z)) (a .2) in
           let e : z - 2 + 2 ≡ z = omega arith in
-          subst (λ (y : ℕ). FreeBlock v given y k) e (free-here (z - 2) k (omega arith) (subst (λ (y : ℕ). k < perZone (typeIn v given y)) (sym e) w) (a .3))
+          subst (λ (y : ℕ). FreeBlock v given y k) e (free-here (z - 2) k (omega arith) (subst (λ (y : ℕ). k < perZone (typeIn v given y)) (sym e) w) (subst (λ (y : ℕ). 3 ≤ typeIn v given y) (sym e) least) (d .1))
 
       type-at : (i : ℕ) → typeIn v given (i + 2) ≡ under opens types frees perZone gave i
       unfolding typeIn
       type-at i = ap (λ (j : ℕ). cond (opens i) (gave j) (types i)) (add-sub-cancel i 2)
 
       -- below the bounds that are tested, the taken blocks are the chosen ones
-      taken-at : (i k : ℕ) → i < v .zones - 2 → k < perZone (typeIn v given (i + 2)) → taken (i + 2) k ≡ chosen i k
-      taken-at i k hi w =
-          rw (le-leb 2 (i + 2) (omega arith), lt-ltb (i + 2) (v .zones) (omega arith), lt-ltb k (perZone (typeIn v given (i + 2))) w)
+      taken-at : (i k : ℕ) → i < v .zones - 2 → k < perZone (typeIn v given (i + 2)) → 3 ≤ typeIn v given (i + 2) → taken (i + 2) k ≡ chosen i k
+      taken-at i k hi w least =
+          rw (le-leb 2 (i + 2) (omega arith), lt-ltb (i + 2) (v .zones) (omega arith), lt-ltb k (perZone (typeIn v given (i + 2))) w, le-leb 3 (typeIn v given (i + 2)) least)
           (ap (λ (j : ℕ). chosen j k) (add-sub-cancel i 2))
 
-      number-in : (t i : ℕ) → i < v .zones - 2
+      number-in : (t i : ℕ) → 3 ≤ t → i < v .zones - 2
           → onlyIf (eqb (typeIn v given (i + 2)) t) (count (taken (i + 2)) (perZone t)) ≡ onlyIf (eqb (under opens types frees perZone gave i) t) (count (chosen i) (perZone t))
       unfolding onlyIf
-      number-in t i hi = go (eqb (typeIn v given (i + 2)) t) refl ∙ ap (λ (u : ℕ). onlyIf (eqb u t) (count (chosen i) (perZone t))) (type-at i)
+      number-in t i least hi = go (eqb (typeIn v given (i + 2)) t) refl ∙ ap (λ (u : ℕ). onlyIf (eqb u t) (count (chosen i) (perZone t))) (type-at i)
         where
           go : (a : Bool) → eqb (typeIn v given (i + 2)) t ≡ a → onlyIf a (count (taken (i + 2)) (perZone t)) ≡ onlyIf a (count (chosen i) (perZone t))
           go true q =
               let e : typeIn v given (i + 2) ≡ t = eqb-true _ _ q in
-              sum-same (perZone t) _ _ (λ k l. ap (λ (b : Bool). onlyIf b 1) (taken-at i k hi (rw e l)))
+              sum-same (perZone t) _ _ (λ k l. ap (λ (b : Bool). onlyIf b 1) (taken-at i k hi (rw e l) (rw e least)))
           go false q = refl
 
-      number-is : (t : ℕ) → takenOf v given taken t ≡ size opens types frees perZone gave chosen t (v .zones - 2)
+      number-is : (t : ℕ) → 3 ≤ t → takenOf v given taken t ≡ size opens types frees perZone gave chosen t (v .zones - 2)
       unfolding takenOf
-      number-is t = sum-same (v .zones - 2) _ _ (number-in t)
+      number-is t least = sum-same (v .zones - 2) _ _ (λ i. number-in t i least)
 
       supplied : Enough v c → (t : ℕ) → t < 6 → takenOf v given taken (t + 3) ≡ c (t + 3)
       unfolding openZones
-      supplied h t l = number-is (t + 3) ∙ choice-enough opens types frees perZone (v .zones - 2) 6 c some-each (let e = lack-is c in omega arith) t l
+      supplied h t l = number-is (t + 3) (omega arith) ∙ choice-enough opens types frees perZone (v .zones - 2) 6 c some-each (let e = lack-is c in omega arith) t l
 
       pub enough-supply : Enough v c → Supply v c
       enough-supply h = record {

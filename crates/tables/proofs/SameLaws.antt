@@ -8,14 +8,14 @@ use Rattle.field.proofs.Sums.{sum-same}
 use Rattle.tables.specs.declared.zone.ZoneEntry.{ZoneEntry}
 use Rattle.tables.specs.Kinds.{zoneOf, firstOf}
 use Rattle.tables.specs.Blocks.{Block, blockOf}
-use Rattle.tables.specs.Indexes.{wordOf, parentOf, linkOf, startOf}
+use Rattle.tables.specs.Indexes.{wordOf, parentOf, linkOf, startOf, headerStart}
 use Rattle.tables.specs.Views.{View, Begins, Parent, Child, walk, next, tally, claimsOf, claimsOver, Under}
 use Rattle.tables.specs.Same.{Same, Ground}
 use Rattle.tables.specs.Rules.R2.{ZoneBits, R2}
 use Rattle.tables.specs.Rules.R3.{Blocks, R3}
 use Rattle.tables.specs.Rules.R4.{R4}
 use Rattle.tables.specs.Rules.R5.{FileChain, Stands, R5}
-use Rattle.tables.specs.Rules.R6.{Run, Shape, R6}
+use Rattle.tables.specs.Rules.R6.{Run, HeaderLaw, Shape, R6}
 use Rattle.tables.specs.Rules.R7.{Owned}
 use Rattle.tables.specs.Rules.R8.{fileSectors, fileType, InType, File, R8}
 use Rattle.tables.specs.Rules.R9.{freeOne, activeOne, deletedOne, systemOne, directoryOne, R9}
@@ -147,8 +147,20 @@ module _ (v v' : View) (s : Same v v') where
     whole = λ z l lo. (let l' : z < v .zones = rw (s .zones) at l in rw (s .zone z (omega arith) (omega arith)) (r .whole z l' lo));
   }
 
+  pub same-header : (t : List ℕ) → HeaderLaw v t → HeaderLaw v' t
+  same-header t h = record {
+    run = λ u. (let r = h .run u in record {
+      some = r .some;
+      few = r .few;
+      low = r .low;
+      high = rw (s .zones) (r .high);
+      one = r .one;
+      typed = rw (s .zone (zoneOf (headerStart t)) (omega arith) (omega (arith, r .high, r .some))) (r .typed);
+    });
+  }
+
   pub same-shape : (i : ℕ) (t : List ℕ) → Shape v i t → Shape v' i t
-  same-shape i t h = record { first = h .first; used = λ j l u. same-run _ _ (h .used j l u); one = h .one; header = h .header }
+  same-shape i t h = record { first = h .first; used = λ j l u. same-run _ _ (h .used j l u); one = h .one; header = λ e. same-header t (h .header e) }
 
   pub same-R6 : R6 v → R6 v'
   same-R6 r i l lo = let hi : i ≤ v .indexes = omega (arith, s .indexes) in rw (s .table i lo hi) (same-shape i (v .table i) (r i (omega arith) lo))

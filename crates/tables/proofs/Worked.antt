@@ -96,7 +96,7 @@ child-pointers : (slotsOf 5 t ≡ 17) × (startOf 5 t 0 ≡ four 22) × (countOf
 unfolding slotsOf baseOf fileOf t numbered four two u16At u32At
 child-pointers = (refl, refl, refl, refl, refl, refl, refl)
 
--- the six block sizes
-block-sizes : (blockOf 3 ≡ 1) × (blockOf 4 ≡ 4) × (blockOf 5 ≡ 16) × (blockOf 6 ≡ 64) × (blockOf 7 ≡ 256) × (blockOf 8 ≡ 1024)
+-- the block sizes
+block-sizes : (blockOf 2 ≡ 1) × (blockOf 3 ≡ 1) × (blockOf 4 ≡ 4) × (blockOf 5 ≡ 16) × (blockOf 6 ≡ 64) × (blockOf 7 ≡ 256) × (blockOf 8 ≡ 1024)
 unfolding blockOf
-block-sizes = (refl, refl, refl, refl, refl, refl)
+block-sizes = (refl, refl, refl, refl, refl, refl, refl)

@@ -133,6 +133,16 @@ UsedAt t o = 0 < u32At t o + u16At t (o + 4)
 abbrev pub Used : ℕ → List ℕ → ℕ → Type 0
 Used i t j = UsedAt t (baseOf i t + 6 * j)
 
+-- of a parent whose bytes are t, "header pointer 58-63": its start sector and count, and that the file has a header
+abbrev pub headerStart : List ℕ → ℕ
+headerStart t = u32At t 58
+
+abbrev pub headerCount : List ℕ → ℕ
+headerCount t = u16At t 62
+
+abbrev pub HasHeader : List ℕ → Type 0
+HasHeader t = UsedAt t 58
+
 -- the sectors under the table's pointers
 unfoldable pub sectorsOf : ℕ → List ℕ → ℕ
 sectorsOf i t = sumTo (slotsOf i t) (λ j. countOf i t j)

@@ -1,4 +1,4 @@
--- "An open zone has type 0, or type 3-8 with every block free."
+-- "An open zone has type 0, or type 3-8 with every block free." "A wholly free type B zone is open too" (W1).
 use mathlib.Core.Bool.{Bool, _&&_, _||_}
 use Prim.Native.Nat.{ℕ, _+_, _-_}
 use lib.Dec.{eqb}

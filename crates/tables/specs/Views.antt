@@ -5,14 +5,14 @@ use mathlib.Core.Path.{_≡_}
 use mathlib.Core.Bool.{Bool, cond}
 use Prim.Native.Nat.{ℕ, zero, suc, _+_, _≤_, _<_}
 use mathlib.Core.List.{List}
-use lib.Dec.{leb, ltb}
+use lib.Dec.{eqb, leb, ltb}
 use Rattle.field.specs.Sum.{sumTo}
 use Rattle.tables.specs.declared.places.Places.{Places}
 use Rattle.tables.specs.declared.zone.ZoneEntry.{ZoneEntry}
 use Rattle.tables.specs.Sector1.{activeOf, deletedOf, freeOf, systemOf, directoryOf, firstFreeOf, flagOf}
 use Rattle.tables.specs.Zones.{zoneAt}
 use Rattle.tables.specs.Sectors.{sectorAt}
-use Rattle.tables.specs.Indexes.{tableAt, wordOf, linkOf, minus, slotsOf, startOf, countOf}
+use Rattle.tables.specs.Indexes.{tableAt, wordOf, linkOf, minus, slotsOf, startOf, countOf, headerStart, headerCount}
 
 pub record View : Type 0 where
   pub zones : ℕ
@@ -83,7 +83,7 @@ onlyIf t n = cond t n 0
 unfoldable pub tally : View → (ℕ → List ℕ → ℕ) → ℕ
 tally v f = sumTo (v .indexes) (λ k. f (k + 1) (v .table (k + 1)))
 
--- ---- sectors under pointers
+-- ---- sectors under pointers and header pointers
 
 -- 1 if s is one of the c sectors from a on, else 0
 unfoldable pub cov : ℕ → ℕ → ℕ → ℕ
@@ -96,10 +96,18 @@ overOf i t s = sumTo (slotsOf i t) (λ j. cov (startOf i t j) (countOf i t j) s)
 unfoldable pub pointersOver : View → ℕ → ℕ
 pointersOver v s = tally v (λ i t. overOf i t s)
 
--- what a table owns, as a count: how many of its claims lie over sector s, and how many of all tables. Its pointers are its claims
--- (PointerLaws.claims-are)
+-- 1 if sector s lies under the header pointer of table i, which is a parent, else 0
+unfoldable pub headerOver : ℕ → List ℕ → ℕ → ℕ
+headerOver i t s = onlyIf (eqb (wordOf t) i) (cov (headerStart t) (headerCount t) s)
+
+-- how many header pointers lie over it
+unfoldable pub headersOver : View → ℕ → ℕ
+headersOver v s = tally v (λ i t. headerOver i t s)
+
+-- what a table owns, as a count: how many of its claims lie over sector s, and how many of all tables. Its pointers are its claims, and
+-- "header runs are owned sectors of the file" (W1)
 unfoldable pub claimsOf : ℕ → List ℕ → ℕ → ℕ
-claimsOf i t s = overOf i t s
+claimsOf i t s = overOf i t s + headerOver i t s
 
 unfoldable pub claimsOver : View → ℕ → ℕ
 claimsOver v s = tally v (λ i t. claimsOf i t s)
@@ -111,3 +119,9 @@ pub record Under (v : View) (i j s : ℕ) : Type 0 where
   pub slot : j < slotsOf i (v .table i)
   pub from : startOf i (v .table i) j ≤ s
   pub to : s < startOf i (v .table i) j + countOf i (v .table i) j
+
+-- it lies under the header pointer of parent i
+pub record UnderHeader (v : View) (i s : ℕ) : Type 0 where
+  pub parent : Parent v i
+  pub from : headerStart (v .table i) ≤ s
+  pub to : s < headerStart (v .table i) + headerCount (v .table i)

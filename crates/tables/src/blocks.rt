@@ -4,7 +4,10 @@ ghost use mathlib.Core.Path.{_≡_};
 ghost use Rattle.field.specs.Says.{Says};
 ghost use Rattle.tables.specs.Blocks.{ZoneType, DataType, blockOf, perZone, Block};
 
-// The types that a zone may have, C to H.
+// The types that a zone may have, B to H: headers lie in zones of the first.
+pub const HEADER_TYPE: u32 = 2;
+
+// Files lie in those of the others, C to H.
 const LOWEST: u32 = 3;
 
 const HIGHEST: u32 = 8;
@@ -12,7 +15,7 @@ const HIGHEST: u32 = 8;
 pub fn is_zone_type(t: u32) -> bool
     ensures { λ r. ⌜ Says r (ZoneType t) ⌝ }
 {
-    if t < LOWEST {
+    if t < HEADER_TYPE {
         return false;
     }
     if t > HIGHEST {
@@ -25,7 +28,13 @@ pub fn is_zone_type(t: u32) -> bool
 pub fn is_data_type(t: u32) -> bool
     ensures { λ r. ⌜ Says r (DataType t) ⌝ }
 {
-    is_zone_type(t)
+    if t < LOWEST {
+        return false;
+    }
+    if t > HIGHEST {
+        return false;
+    }
+    true
 }
 
 // The sectors of a block of a zone of type t.
@@ -33,6 +42,9 @@ pub fn block_sectors(t: u32) -> u32
     requires { ⌜ ZoneType t ⌝ }
     ensures { λ r. ⌜ (r ≡ blockOf t) × Block r ⌝ }
 {
+    if t == HEADER_TYPE {
+        return 1;
+    }
     1 << (2 * (t - LOWEST))
 }
 

@@ -1,5 +1,6 @@
 -- R2 "Zone 1 reads (1, -1, Z), zone Z reads (-1, -1, 1), and all their sector bits are set.
--- Others: (0,0,0) with bits clear, or type 3-8 with third field 0."
+-- Others: (0,0,0) with bits clear, or type 3-8 with third field 0." "Zone type 2 (B) becomes lawful, free field = free sectors, third field 0"
+-- (W1): type 2-8.
 use mathlib.Core.Path.{_≡_}
 use mathlib.Core.Logic.{_⊎_}
 use Prim.Native.Nat.{ℕ, _+_, _≤_, _<_}
@@ -24,7 +25,7 @@ pub record Untyped (v : View) (z : ℕ) : Type 0 where
   pub reads : Reads (v .zone z) 0 0 0
   pub clear : ZoneBits v z 0
 
--- type 3-8 with third field 0
+-- type 2-8 with third field 0
 pub record InUse (v : View) (z : ℕ) : Type 0 where
   pub typed : ZoneType (v .zone z .ztype)
   pub third : v .zone z .third ≡ 0

@@ -1,4 +1,5 @@
--- R3 "In zones of type 3-8 each block is wholly set or wholly clear, and the free count is the number of clear blocks."
+-- R3 "In zones of type 3-8 each block is wholly set or wholly clear, and the free count is the number of clear blocks." Of type 2 too, with
+-- blocks of one sector: "Zone type 2 (B) becomes lawful, free field = free sectors" (W1).
 use mathlib.Core.Path.{_≡_}
 use Prim.Native.Nat.{ℕ, _+_, _-_, _*_, _/_}
 use Rattle.field.specs.Sum.{sumTo}
@@ -16,7 +17,7 @@ pub record Blocks (bit : ℕ → ℕ) (from size free : ℕ) : Type 0 where
   pub whole : Whole bit from size
   pub number : clearBlocks bit from size ≡ free
 
--- zone z, if it is of type 3-8
+-- zone z, if it is of type 2-8
 abbrev pub BlockLaw : View → ℕ → Type 0
 BlockLaw v z = ZoneType (v .zone z .ztype) → Blocks (v .bit) (firstOf z) (blockOf (v .zone z .ztype)) (v .zone z .free)
 

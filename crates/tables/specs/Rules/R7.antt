@@ -1,9 +1,10 @@
--- R7 "No sector is under two pointers. Outside zones 1 and Z the set bits are exactly the sectors under pointers."
--- By counting: the number of claims over a sector is its bit. The paper's words follow, and give it (PointerLaws: one-pointer, set-under,
--- under-set; words-R7).
+-- R7 "No sector is under two pointers. Outside zones 1 and Z the set bits are exactly the sectors under pointers." "Header runs are owned
+-- sectors of the file" (W1): a sector is owned if it is under a pointer or under a header pointer, and none is owned twice.
+-- By counting: the number of claims over a sector is its bit. The words follow, and give it (PointerLaws: words-count, count-words).
 use mathlib.Core.Path.{_≡_}
+use mathlib.Core.Logic.{_⊎_}
 use Prim.Native.Nat.{ℕ, _+_, _-_, _*_, _≤_, _<_}
-use Rattle.tables.specs.Views.{View, claimsOver}
+use Rattle.tables.specs.Views.{View, claimsOver, Under, UnderHeader}
 
 -- outside zones 1 and Z a sector is owned, or one of those that are set besides, never both, exactly if its bit is set
 pub record Owned (v : View) (extra : ℕ → ℕ) : Type 0 where
@@ -16,3 +17,16 @@ nothing s = 0
 -- nothing is set besides
 abbrev pub R7 : View → Type 0
 R7 v = Owned v nothing
+
+-- sector s is under a pointer, or under a header pointer
+abbrev pub Owner : View → ℕ → Type 0
+Owner v s = ((i : ℕ) × (j : ℕ) × Under v i j s) ⊎ ((i : ℕ) × UnderHeader v i s)
+
+-- the words at sector s: it is owned once at most, and its bit is set exactly if it is owned
+pub record SectorWords (v : View) (s : ℕ) : Type 0 where
+  pub one : (i j k l : ℕ) → Under v i j s → Under v k l s → (i ≡ k) × (j ≡ l)
+  pub header : (i k : ℕ) → UnderHeader v i s → UnderHeader v k s → i ≡ k
+  pub apart : (i j k : ℕ) → Under v i j s → UnderHeader v k s → ⊥
+  pub set : v .bit s ≡ 1 → Owner v s
+  pub under : (i j : ℕ) → Under v i j s → v .bit s ≡ 1
+  pub headed : (i : ℕ) → UnderHeader v i s → v .bit s ≡ 1

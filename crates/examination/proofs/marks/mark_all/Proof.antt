@@ -14,8 +14,8 @@ Inv-loop b p m₀ indexes i₀ m i = (i ≤ indexes) × MarksAdded m₀ m (overT
 abbrev μ-loop : tie.MeasureT-loop
 μ-loop b p m₀ indexes i₀ m i = indexes - i
 
-mark-pointers-requires : tie.Need-mark-pointers-requires Inv-loop μ-loop
-mark-pointers-requires c κs =
+mark-claims-requires : tie.Need-mark-claims-requires Inv-loop μ-loop
+mark-claims-requires c κs =
     let s = c .before .before .before .before .before .before in
     table-fits (s .args .p) (s .args .b .now) (s .pre .0) (s .pre .1 .0) _ _ _ (omega arith) (omega arith) (c .before .table .ensures .0) (c .before .before .before .loop .inv .1 .len ∙ s .pre .1 .1)
 
@@ -29,7 +29,7 @@ mark-all-spec =
     (λ c. search needs)
     (λ c κs. search needs)
     (λ c. search needs)
-    mark-pointers-requires
+    mark-claims-requires
     (λ c. search needs)
     (λ c. search tables-stop)
     (λ c. search needs)

@@ -1,5 +1,5 @@
 use Rattle.requests.proofs.StateLaws.{remove-stops, remove-goes}
-use Rattle.requests.proofs.ArgumentLaws.{argued-good, argument-room}
+use Rattle.requests.proofs.BodyLaws.{lent-good-at, lent-room}
 use native.Mathlib.Omega.{arith}
 use borrow.Author.Needs.{needs}
 use Rattle.requests.proofs.temporary_delete.remove_number.Statement.{statement}
@@ -12,6 +12,6 @@ remove-number-spec =
     (λ c κs. search needs)
     (λ c κs. search needs)
     (λ c. search remove-stops)
-    (λ c κs. search argument-room)
-    (λ c κs. (search argued-good, omega arith))
+    (λ c κs. search lent-room)
+    (λ c κs. (search lent-good-at, omega arith))
     (λ c. search remove-goes))

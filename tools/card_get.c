@@ -1,7 +1,8 @@
-/* get: copies a file of a volume out, with exactly its byte length. */
+/* get and header get: copy a file of a volume out, with exactly its byte length, or the data of its header. */
 #include "card_books.h"
 #include "card_commands.h"
 #include "card_entries.h"
+#include "card_headers.h"
 #include "card_output.h"
 #include "card_progress.h"
 #include "card_say.h"
@@ -37,7 +38,7 @@ static int copy_out(const struct volume *volume, uint32_t id, const struct sink 
     return status;
 }
 
-static int get(const struct volume *volume, uint32_t id, const char *path) {
+static int get_data(const struct volume *volume, uint32_t id, const char *path) {
     struct sink sink;
     uint32_t number = may_read(volume, id);
     int status;
@@ -47,7 +48,25 @@ static int get(const struct volume *volume, uint32_t id, const char *path) {
     return status == CARD_DONE ? sink_close(&sink, copy_out(volume, id, &sink)) : status;
 }
 
-int run_get(const struct request *request) {
+static int get_header(const struct volume *volume, uint32_t id, const char *path) {
+    isc_part part = isc_show_header(volume->books, volume->books_len, volume->body, volume->body_len, id);
+    uint32_t length, number = isc_header_number(volume->books, volume->books_len, volume->body, volume->body_len, id);
+    struct sink sink;
+    int status;
+    if (number == ISC_POSITION)
+        return say_failure("the file has no header (%u)", (unsigned)number);
+    if (number != ISC_DONE)
+        return say_refusal(number);
+    if (headers_look(volume->body, books_index(volume->books, id), &length) != HEADER_SOUND)
+        return say_failure("the header says that it has %u bytes, more than its sectors hold", (unsigned)length);
+    status = sink_open(&sink, &volume->image, path);
+    return status == CARD_DONE ? sink_close(&sink, sink_write(&sink, part.at + ISC_HEADER_DATA, length)) : status;
+}
+
+/* Copies something of the file `id` to a path, standard output where it is null; returns an exit status. */
+typedef int give(const struct volume *volume, uint32_t id, const char *path);
+
+static int run_give(const struct request *request, give *give_it) {
     struct volume volume;
     uint32_t id;
     int status = volume_open(&volume, request->operands[0], ACCESS_READ);
@@ -55,7 +74,15 @@ int run_get(const struct request *request) {
         return status;
     status = entries_find(&volume, STATE_ACTIVE, request->operands[1], &id);
     if (status == CARD_DONE)
-        status = get(&volume, id, request->operands[2]);
+        status = give_it(&volume, id, request->operands[2]);
     volume_close(&volume);
     return status;
+}
+
+int run_get(const struct request *request) {
+    return run_give(request, get_data);
+}
+
+int run_header_get(const struct request *request) {
+    return run_give(request, get_header);
 }

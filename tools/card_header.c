@@ -1,10 +1,7 @@
-/* header put and header get: give a file a header, and copy one out. */
-#include "card_books.h"
+/* header put: gives a file a header, or another one. */
 #include "card_commands.h"
 #include "card_entries.h"
-#include "card_headers.h"
 #include "card_input.h"
-#include "card_output.h"
 #include "card_say.h"
 #include "card_volume.h"
 
@@ -43,34 +40,6 @@ int run_header_put(const struct request *request) {
     status = entries_find(&volume, STATE_ACTIVE, request->operands[1], &id);
     if (status == CARD_DONE)
         status = place(&volume, id, request->operands[2], date);
-    volume_close(&volume);
-    return status;
-}
-
-static int copy_out(const struct volume *volume, uint32_t id, const char *path) {
-    isc_part part = isc_show_header(volume->books, volume->books_len, volume->body, volume->body_len, id);
-    uint32_t length, number = isc_header_number(volume->books, volume->books_len, volume->body, volume->body_len, id);
-    struct sink sink;
-    int status;
-    if (number == ISC_POSITION)
-        return say_failure("the file has no header (%u)", (unsigned)number);
-    if (number != ISC_DONE)
-        return say_refusal(number);
-    if (headers_look(volume->body, books_index(volume->books, id), &length) != HEADER_SOUND)
-        return say_failure("the header says that it has %u bytes, more than its sectors hold", (unsigned)length);
-    status = sink_open(&sink, &volume->image, path);
-    return status == CARD_DONE ? sink_close(&sink, sink_write(&sink, part.at + ISC_HEADER_DATA, length)) : status;
-}
-
-int run_header_get(const struct request *request) {
-    struct volume volume;
-    uint32_t id;
-    int status = volume_open(&volume, request->operands[0], ACCESS_READ);
-    if (status != CARD_DONE)
-        return status;
-    status = entries_find(&volume, STATE_ACTIVE, request->operands[1], &id);
-    if (status == CARD_DONE)
-        status = copy_out(&volume, id, request->operands[2]);
     volume_close(&volume);
     return status;
 }

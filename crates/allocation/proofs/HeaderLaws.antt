@@ -19,7 +19,7 @@ use Rattle.tables.specs.Views.{View}
 use Rattle.tables.proofs.LackLaws.{in-begun}
 use Rattle.allocation.specs.declared.choice.Found.{Found}
 use Rattle.allocation.specs.Choice.{begun, lowestOpen}
-use Rattle.allocation.specs.Headers.{fits, lowestRun, fitting, lowestFitting, headerPlace, FittingRun, HeaderRoom, BegunPlace, OpenPlace}
+use Rattle.allocation.specs.Headers.{runFits, lowestRun, fitting, lowestFitting, headerPlace, FittingRun, HeaderRoom, BegunPlace, OpenPlace}
 use Rattle.allocation.proofs.FindLaws.{find-low, find-passes, find-none, find-some, find-at, find-all}
 use Rattle.allocation.proofs.NextBlockLaws.{begun-yes, begun-no, begun-is}
 
@@ -54,48 +54,48 @@ run-longer bit first from free h e =
 
 module _ (v : View) (n z : ℕ) where
   -- what the test of a run says, of the sum of its bits and of each
-  fits-yes : (k : ℕ) → sumTo n (λ j. v .bit (firstOf z + k + j)) ≡ 0 → fits v n z k ≡ true
-  unfolding fits
+  fits-yes : (k : ℕ) → sumTo n (λ j. v .bit (firstOf z + k + j)) ≡ 0 → runFits v n z k ≡ true
+  unfolding runFits
   fits-yes k h = eq-eqb _ 0 h
 
-  fits-no : (k : ℕ) → 0 < sumTo n (λ j. v .bit (firstOf z + k + j)) → fits v n z k ≡ false
-  unfolding fits
+  fits-no : (k : ℕ) → 0 < sumTo n (λ j. v .bit (firstOf z + k + j)) → runFits v n z k ≡ false
+  unfolding runFits
   fits-no k h = ne-eqb (sumTo n (λ j. v .bit (firstOf z + k + j))) 0 (λ e. omega arith)
 
-  fits-clear : (k : ℕ) → fits v n z k ≡ true → (j : ℕ) → j < n → v .bit (firstOf z + k + j) ≡ 0
-  unfolding fits
+  fits-clear : (k : ℕ) → runFits v n z k ≡ true → (j : ℕ) → j < n → v .bit (firstOf z + k + j) ≡ 0
+  unfolding runFits
   fits-clear k h j l = omega (arith, eqb-true (sumTo n (λ j. v .bit (firstOf z + k + j))) 0 h, sum-part n j (λ j. v .bit (firstOf z + k + j)) l)
 
   -- the search for a run, whose zone begins at `first`: none below `from` is free
   module _ (first : ℕ) (at : first ≡ firstOf z) (from : ℕ) (none : (j : ℕ) → j < from → 0 < sumTo n (λ i. v .bit (first + j + i))) where
     -- so none fits
-    run-none : (j : ℕ) → j < from → fits v n z j ≡ false
+    run-none : (j : ℕ) → j < from → runFits v n z j ≡ false
     run-none j l = fits-no j (rw at at (none j l))
 
     -- the run at `from` is the lowest if its sectors are free, and there is none if it would leave the zone
     pub run-hit : from + n ≤ 1024 → sumTo n (λ i. v .bit (first + from + i)) ≡ 0 → from ≡ lowestRun v n z
     unfolding lowestRun
-    run-hit h e = sym (find-at (fits v n z) (1025 - n) 0 from (omega arith) (omega arith) (fits-yes from (rw at at e)) (λ j l lo. run-none j l))
+    run-hit h e = sym (find-at (runFits v n z) (1025 - n) 0 from (omega arith) (omega arith) (fits-yes from (rw at at e)) (λ j l lo. run-none j l))
 
     pub run-end : n ≤ 1024 → 1024 < from + n → 1025 - n ≡ lowestRun v n z
     unfolding lowestRun
     run-end few h =
         let e : 0 + (1025 - n) ≡ 1025 - n = omega arith in
-        sym (find-all (fits v n z) (1025 - n) 0 (λ j l lo. run-none j (omega arith)) ∙ e)
+        sym (find-all (runFits v n z) (1025 - n) 0 (λ j l lo. run-none j (omega arith)) ∙ e)
 
   -- the run that is found fits, and there is one if any fits
-  run-fits : lowestRun v n z < 1025 - n → fits v n z (lowestRun v n z) ≡ true
+  run-fits : lowestRun v n z < 1025 - n → runFits v n z (lowestRun v n z) ≡ true
   unfolding lowestRun
-  run-fits l = find-passes (fits v n z) (1025 - n) 0 (omega arith)
+  run-fits l = find-passes (runFits v n z) (1025 - n) 0 (omega arith)
 
-  run-some : (k : ℕ) → k + n ≤ 1024 → fits v n z k ≡ true → lowestRun v n z < 1025 - n
+  run-some : (k : ℕ) → k + n ≤ 1024 → runFits v n z k ≡ true → lowestRun v n z < 1025 - n
   unfolding lowestRun
-  run-some k l h = let q = find-some (fits v n z) (1025 - n) 0 k (omega arith) (omega arith) h in omega arith
+  run-some k l h = let q = find-some (runFits v n z) (1025 - n) 0 k (omega arith) (omega arith) h in omega arith
 
   -- none below it does
-  run-lowest : (k : ℕ) → k < lowestRun v n z → fits v n z k ≡ false
+  run-lowest : (k : ℕ) → k < lowestRun v n z → runFits v n z k ≡ false
   unfolding lowestRun
-  run-lowest k l = find-none (fits v n z) (1025 - n) 0 k l (omega arith)
+  run-lowest k l = find-none (runFits v n z) (1025 - n) 0 k l (omega arith)
 
 -- ---- zones
 
@@ -241,7 +241,7 @@ module _ (v : View) (n : ℕ) where
   ]
 
   -- and no run of its zone below it
-  pub lowest-run : (k : ℕ) → k < headerPlace v n .number → fits v n (headerPlace v n .zone .0) k ≡ false
+  pub lowest-run : (k : ℕ) → k < headerPlace v n .number → runFits v n (headerPlace v n .zone .0) k ≡ false
   lowest-run k below = elim (decLt (lowestFitting v n) (v .zones)) [
     | yes h ↦ rw (place-begun h) (run-lowest v n (lowestFitting v n) k (rw (place-begun h) at below))
     | no h ↦ absurd (let q : k < 0 = rw (place-open (omega arith)) at below in omega arith)

@@ -20,13 +20,13 @@ use Rattle.allocation.specs.Choice.{begun, lowestOpen}
 -- ---- the place of a header of n sectors
 
 -- the n sectors from the k-th of zone z on are free
-unfoldable pub fits : View → ℕ → ℕ → ℕ → Bool
-fits v n z k = eqb (sumTo n (λ j. v .bit (firstOf z + k + j))) 0
+unfoldable pub runFits : View → ℕ → ℕ → ℕ → Bool
+runFits v n z k = eqb (sumTo n (λ j. v .bit (firstOf z + k + j))) 0
 
 -- the lowest such k, 1025 - n where there is none
 unfoldable pub lowestRun : View → ℕ → ℕ → ℕ
-unfolding fits find
-lowestRun v n z = find (fits v n z) (1025 - n) 0
+unfolding runFits find
+lowestRun v n z = find (runFits v n z) (1025 - n) 0
 
 -- a B zone that isn't open and has a fitting run
 unfoldable pub fitting : View → ℕ → ℕ → Bool

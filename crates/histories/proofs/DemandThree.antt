@@ -32,7 +32,7 @@ use Rattle.requests.specs.declared.amount.Amount.{Amount}
 use Rattle.requests.specs.declared.answer.Answer.{Answer}
 use Rattle.requests.specs.Header.{HeaderShown}
 use Rattle.requests.specs.Read.{ReadOut}
-use Rattle.requests.specs.Show.{Shown}
+use Rattle.requests.specs.Show.{bytesOf, Shown}
 use Rattle.requests.specs.State.{removed, recovered, protected}
 use Rattle.histories.specs.History.{Volume, seen, LawfulVolume, temporaryDelete, recover, setProtection, write, Does, RequestStep, History, namedBy, Belongs, HeaderAt, bytesAt, headerOf, PutsIn, Deletes, SparedIn, PutsHeaderIn, SameHeader, HeaderLeftIn}
 use Rattle.requests.proofs.StateKeeps.{removed-keeps, recovered-keeps, protected-keeps, after-pointer}
@@ -201,6 +201,14 @@ module _ (v w : Volume) (start : LawfulVolume v) (h : History v w) where
 
     pub show-header-same : (y y' : List ℕ) → HeaderShown (w .books) (w .body) g y → HeaderShown (x .books) (x .body) g y' → y ≡ y'
     show-header-same y y' a b = headers-same w x g twin y y' a b
+
+-- ---- the bytes that all this speaks of are those that show and show header hand back
+
+pub shown-data : (w : Volume) (f k : ℕ) (part : List ℕ) (s : Shown (w .books) (w .body) f k part) → s .number ≡ 0 → part ≡ bytesAt w f k
+shown-data w f k part s z = s .bytes ∙ ap (λ (r : ℕ). bytesOf r (w .body) (kthSector (seen w) f k) 1) z
+
+pub shown-header : (w : Volume) (f : ℕ) (part : List ℕ) (s : HeaderShown (w .books) (w .body) f part) → s .number ≡ 0 → part ≡ headerOf w f
+shown-header w f part s z = s .bytes ∙ ap (λ (r : ℕ). bytesOf r (w .body) (headerStart (seen w .table f)) (headerCount (seen w .table f))) z
 
 -- the j-th pointer of index table i
 abbrev pointer : List ℕ → ℕ → ℕ → Pointer

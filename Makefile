@@ -29,7 +29,7 @@ else
 endif
 
 # The changes of the library that the model is to know too: its cargo features
-CHANGES = w6,w3,w1
+CHANGES = w6,w3,w1,w7
 # Of make compare: the seed, the number of requests and the most seconds (0: no limit)
 SEED = 1
 COUNT = 200000

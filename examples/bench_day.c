@@ -11,6 +11,7 @@ static uint8_t books[5 * SECTOR];
 static uint8_t body[2 * 1048576]; /* zones 2 and 3 of 4 */
 static uint8_t first[SIZE], second[SIZE], out[SIZE];
 static const uint8_t date[6] = {7, 234, 1, 2, 3, 4};
+static const uint32_t none[1]; /* lent with length 0: no block of this card is withheld */
 
 static void fill(uint8_t *curve, unsigned step) {
     unsigned i;
@@ -21,16 +22,16 @@ static void fill(uint8_t *curve, unsigned step) {
 static void say(const char *what, uint32_t number) { printf("%s number=%u\n", what, number); }
 
 static uint32_t create(const char *what, const char *name, int32_t size, int32_t flag) {
-    uint32_t id, number = isc_create_fixed(books, sizeof books, (const uint8_t *)name, strlen(name), size, flag, 0,
-                                           date, sizeof date, &id);
+    uint32_t id, number = isc_create_fixed(books, sizeof books, none, 0, (const uint8_t *)name, strlen(name), size,
+                                           flag, 0, date, sizeof date, &id);
     printf("%s number=%u id=%u\n", what, number, id);
     return id;
 }
 
 static void write_at(const char *what, uint32_t id, int32_t position, int32_t length, uint32_t exchange,
                      const uint8_t *in) {
-    uint32_t moved, number = isc_write(books, sizeof books, body, sizeof body, id, position, length, exchange, in, SIZE,
-                                       date, sizeof date, &moved);
+    uint32_t moved, number = isc_write(books, sizeof books, none, 0, body, sizeof body, id, position, length, exchange,
+                                       in, SIZE, date, sizeof date, &moved);
     printf("%s number=%u moved=%u\n", what, number, moved);
 }
 
@@ -40,7 +41,8 @@ static void read_at(const char *what, uint32_t id, int32_t position, int32_t len
     uint32_t moved, number, i;
     int same;
     memset(out, 85, sizeof out);
-    number = isc_read(books, sizeof books, body, sizeof body, id, position, length, exchange, out, sizeof out, &moved);
+    number = isc_read(books, sizeof books, none, 0, body, sizeof body, id, position, length, exchange, out, sizeof out,
+                      &moved);
     same = memcmp(out, wanted, moved) == 0;
     for (i = moved; i < sizeof out; i++)
         same = same && out[i] == 85;
@@ -48,19 +50,20 @@ static void read_at(const char *what, uint32_t id, int32_t position, int32_t len
 }
 
 static void locate(uint32_t id, uint32_t k) {
-    uint32_t sector, number = isc_locate(books, sizeof books, id, k, &sector);
+    uint32_t sector, number = isc_locate(books, sizeof books, none, 0, id, k, &sector);
     printf("locate %u number=%u sector=%u\n", k, number, sector);
 }
 
 static void show(uint32_t id, uint32_t k, const uint8_t *wanted) {
-    isc_part part = isc_show(books, sizeof books, body, sizeof body, id, k);
-    printf("show %u number=%u len=%zu as-wanted=%d\n", k, isc_show_number(books, sizeof books, body, sizeof body, id, k),
-           part.len, memcmp(part.at, wanted, part.len) == 0);
+    isc_part part = isc_show(books, sizeof books, none, 0, body, sizeof body, id, k);
+    printf("show %u number=%u len=%zu as-wanted=%d\n", k,
+           isc_show_number(books, sizeof books, none, 0, body, sizeof body, id, k), part.len,
+           memcmp(part.at, wanted, part.len) == 0);
 }
 
 static void search(const char *pattern) {
-    uint32_t ids[2] = {0, 0}, count, number = isc_search(books, sizeof books, (const uint8_t *)pattern, strlen(pattern),
-                                                         ids, 2, &count);
+    uint32_t ids[2] = {0, 0}, count, number;
+    number = isc_search(books, sizeof books, none, 0, (const uint8_t *)pattern, strlen(pattern), ids, 2, &count);
     printf("search %s number=%u count=%u ids=%u,%u\n", pattern, number, count, ids[0], ids[1]);
 }
 
@@ -68,24 +71,24 @@ static void list(uint32_t from) {
     uint8_t entries[2 * 64];
     uint32_t count, number;
     memset(entries, 0, sizeof entries);
-    number = isc_list(books, sizeof books, from, entries, sizeof entries, &count);
+    number = isc_list(books, sizeof books, none, 0, from, entries, sizeof entries, &count);
     printf("list %u number=%u count=%u names=%.24s,%.24s\n", from, number, count, entries + 4, entries + 68);
 }
 
 static void mark(const char *what, uint32_t id) {
-    say(what, isc_temporary_delete(books, sizeof books, body, sizeof body, id, date, sizeof date));
+    say(what, isc_temporary_delete(books, sizeof books, none, 0, body, sizeof body, id, date, sizeof date));
 }
 
 static void give_back(const char *what, uint32_t id) {
-    say(what, isc_actual_delete(books, sizeof books, body, sizeof body, id, date, sizeof date));
+    say(what, isc_actual_delete(books, sizeof books, none, 0, body, sizeof body, id, date, sizeof date));
 }
 
 static void protect(const char *what, uint32_t id, uint32_t weights) {
-    say(what, isc_set_protection(books, sizeof books, id, weights, date, sizeof date));
+    say(what, isc_set_protection(books, sizeof books, none, 0, id, weights, date, sizeof date));
 }
 
 static void used(void) {
-    uint32_t sectors, taken, number = isc_space(books, sizeof books, &sectors, &taken);
+    uint32_t sectors, taken, number = isc_space(books, sizeof books, none, 0, &sectors, &taken);
     printf("space number=%u sectors=%u used=%u\n", number, sectors, taken);
 }
 
@@ -131,7 +134,7 @@ static void delete_and_recover(uint32_t id) {
     read_at("read deleted", id, 0, SIZE, 0, first);
     other = create("another curve", "CURVE 100A", 5000, 0);
     write_at("write another", other, 0, SIZE, 0, second);
-    say("recover", isc_recover(books, sizeof books, body, sizeof body, id, date, sizeof date));
+    say("recover", isc_recover(books, sizeof books, none, 0, body, sizeof body, id, date, sizeof date));
     read_at("read recovered", id, 0, SIZE, 0, first);
     read_at("read another", other, 0, SIZE, 0, second);
     search("CURVE?");
@@ -150,7 +153,8 @@ static void delete_and_recover(uint32_t id) {
 /* A file that grows as it is written, in cells of 4,096 bytes. */
 static void growing(void) {
     const uint8_t name[] = "LOG";
-    uint32_t id, number = isc_create_variable(books, sizeof books, name, sizeof name - 1, 4096, 0, date, sizeof date, &id);
+    uint32_t id, number = isc_create_variable(books, sizeof books, none, 0, name, sizeof name - 1, 4096, 0, date,
+                                              sizeof date, &id);
     printf("cell 4096 number=%u id=%u\n", number, id);
     used();
     write_at("write 5120 at 0", id, 0, SIZE, 0, first);
@@ -167,7 +171,7 @@ int main(void) {
     fill(first, 7);
     fill(second, 11);
     say("format", isc_format(books, sizeof books, 4, 8, date, 0, date, 0, 1, date, 0, date, 0, date, sizeof date));
-    say("mount", isc_mount(books, sizeof books));
+    say("mount", isc_mount(books, sizeof books, none, 0));
     id = create("curve", "CURVE 60A", 5000, 0);
     store_and_read(id);
     protected_file(id);

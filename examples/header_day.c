@@ -11,6 +11,7 @@ static uint8_t books[5 * ISC_SECTOR];
 static uint8_t body[2 * ISC_ZONE]; /* zones 2 and 3 of 4 */
 static uint8_t first[ISC_HEADER_MOST + 1], second[ISC_HEADER_MOST + 1], out[SIZE];
 static const uint8_t date[ISC_DATE] = {7, 234, 1, 2, 3, 4};
+static const uint32_t none[1]; /* lent with length 0: no block of this card is withheld */
 
 static void fill(uint8_t *bytes, unsigned step) {
     unsigned i;
@@ -21,26 +22,27 @@ static void fill(uint8_t *bytes, unsigned step) {
 static void say(const char *what, uint32_t number) { printf("%s number=%u\n", what, number); }
 
 static uint32_t create(const char *name, int32_t size, int32_t flag) {
-    uint32_t id, number = isc_create_fixed(books, sizeof books, (const uint8_t *)name, strlen(name), size, flag,
-                                           ISC_PLAIN, date, sizeof date, &id);
+    uint32_t id, number = isc_create_fixed(books, sizeof books, none, 0, (const uint8_t *)name, strlen(name), size,
+                                           flag, ISC_PLAIN, date, sizeof date, &id);
     printf("create %s number=%u id=%u\n", name, number, id);
     return id;
 }
 
 static void write_all(uint32_t id, const uint8_t *in) {
-    uint32_t moved, number = isc_write(books, sizeof books, body, sizeof body, id, 0, SIZE, 0, in, SIZE, date,
+    uint32_t moved, number = isc_write(books, sizeof books, none, 0, body, sizeof body, id, 0, SIZE, 0, in, SIZE, date,
                                        sizeof date, &moved);
     printf("write %u number=%u moved=%u\n", id, number, moved);
 }
 
 static void read_all(uint32_t id, const uint8_t *wanted) {
-    uint32_t moved, number = isc_read(books, sizeof books, body, sizeof body, id, 0, SIZE, 0, out, sizeof out, &moved);
+    uint32_t moved, number = isc_read(books, sizeof books, none, 0, body, sizeof body, id, 0, SIZE, 0, out, sizeof out,
+                                      &moved);
     printf("read %u number=%u moved=%u as-wanted=%d\n", id, number, moved, memcmp(out, wanted, moved) == 0);
 }
 
 static void place(uint32_t id, const uint8_t *data, size_t length) {
     printf("place header %u of %zu number=%u\n", id, length,
-           isc_place_header(books, sizeof books, body, sizeof body, id, data, length, date, sizeof date));
+           isc_place_header(books, sizeof books, none, 0, body, sizeof body, id, data, length, date, sizeof date));
 }
 
 /* The id and the length as they stand, most significant byte first; the data; then nulls. */
@@ -58,8 +60,8 @@ static int is_header(isc_part part, uint32_t id, const uint8_t *data, size_t len
 
 /* Shows a header by the sector of the volume with which it begins, and says whether it is the one wanted. */
 static void show(uint32_t id, const uint8_t *data, size_t length) {
-    isc_part part = isc_show_header(books, sizeof books, body, sizeof body, id);
-    uint32_t number = isc_header_number(books, sizeof books, body, sizeof body, id);
+    isc_part part = isc_show_header(books, sizeof books, none, 0, body, sizeof body, id);
+    uint32_t number = isc_header_number(books, sizeof books, none, 0, body, sizeof body, id);
     if (number != ISC_DONE)
         printf("show header %u number=%u len=%zu\n", id, number, part.len);
     else
@@ -76,29 +78,29 @@ static void bytes_at(uint32_t sector) {
 /* How many sectors are in use, and the entry of zone 3: the zone table stands in sector 2, six bytes a zone. */
 static void used(void) {
     const uint8_t *zone = books + 2 * ISC_SECTOR + 6 * (3 - 1);
-    uint32_t sectors, taken, number = isc_space(books, sizeof books, &sectors, &taken);
+    uint32_t sectors, taken, number = isc_space(books, sizeof books, none, 0, &sectors, &taken);
     printf("space number=%u used=%u, zone 3 type=%d free=%d\n", number, taken, zone[0] << 8 | zone[1],
            zone[2] << 8 | zone[3]);
 }
 
 static void protect(uint32_t id, uint32_t weights) {
     printf("protect %u with %u number=%u\n", id, weights,
-           isc_set_protection(books, sizeof books, id, weights, date, sizeof date));
+           isc_set_protection(books, sizeof books, none, 0, id, weights, date, sizeof date));
 }
 
 static void mark(uint32_t id) {
     printf("temporary delete %u number=%u\n", id,
-           isc_temporary_delete(books, sizeof books, body, sizeof body, id, date, sizeof date));
+           isc_temporary_delete(books, sizeof books, none, 0, body, sizeof body, id, date, sizeof date));
 }
 
 static void unmark(uint32_t id) {
     printf("recover %u number=%u\n", id,
-           isc_recover(books, sizeof books, body, sizeof body, id, date, sizeof date));
+           isc_recover(books, sizeof books, none, 0, body, sizeof body, id, date, sizeof date));
 }
 
 static void give_back(uint32_t id) {
     printf("actual delete %u number=%u\n", id,
-           isc_actual_delete(books, sizeof books, body, sizeof body, id, date, sizeof date));
+           isc_actual_delete(books, sizeof books, none, 0, body, sizeof body, id, date, sizeof date));
 }
 
 /* The first header opens zone 3; each takes the lowest sectors in a row that are free. */
@@ -171,7 +173,7 @@ int main(void) {
     fill(first, 7);
     fill(second, 11);
     say("format", isc_format(books, sizeof books, 4, 8, date, 0, date, 0, 1, date, 0, date, 0, date, sizeof date));
-    say("mount", isc_mount(books, sizeof books));
+    say("mount", isc_mount(books, sizeof books, none, 0));
     one = create("CURVE 60A", 5000, ISC_TYPE_C);
     other = create("CURVE 100A", 5000, ISC_TYPE_C);
     write_all(one, first);

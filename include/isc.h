@@ -1,19 +1,28 @@
 /* The volume manager of volumes in the IS&C format 1.0: what the box's firmware links with libisc.a.
 
    What is lent. Books are the first S sectors of the volume, S from 5 to 1,024; the body is zones 2 to Z-1,
-   1,048,576 x (Z-2) bytes. docs/INTEGRATION.md says where both stand on the card and in which order to write
-   them. The library keeps nothing from call to call.
+   1,048,576 x (Z-2) bytes; the withheld list is explained below. docs/INTEGRATION.md says where books and body
+   stand on the card and in which order to write them. The library keeps nothing from call to call.
 
    Answers. Every function returns a number (enum isc_number), 0 for done, but isc_show_place, isc_show,
    isc_header_place and isc_show_header, which hand back a part of the body. A refusal alters no lent byte, and
    a value beside it is 0. The numbers that a function can answer are given with it, in the order in which they
-   are examined; "books" stands for 1, 2, 3, 4, 5 in that order.
+   are examined; "books" stands for 1, 2, 3, 7 of the withheld list, 4, 5 in that order.
 
    Slices. A slice is a pointer and a length in elements (for uint8_t that is bytes); an empty slice has a
    pointer that is not null. Slices that are lent at the same time must not overlap. A pointer to a value
    (uint32_t *id and the like) is not null, distinct from every other such pointer of the call, and outside
    its slices. This is all that the caller must see to: books, bodies and other arguments of any content are
    taken, and refused by number where they are wrong.
+
+   Withheld blocks. Where a card has worn spots, no file may lie on them. The list has the blocks that are kept out of
+   use, each by its first sector, strictly ascending, at most 512 (ISC_WITHHELD_MOST). Every function but isc_format
+   takes it, right after the books, and only reads it; on a card without worn spots it is an empty slice, whose pointer
+   is not null either. Each entry starts a block of a zone whose type reads as C to H in the zone table. A list that is
+   longer, not ascending, or has another sector is refused as 7, after 3 and before 4. The bits of a withheld block are
+   set, so it counts as used; no file has a sector of it (R7), none ever gets one, and its zone keeps its type. Lend the
+   same list throughout the volume's life: the library keeps none, and a list of another content is judged anew with the
+   books, mostly as 4.
 
    Dates. A date is the six bytes as they stand on the volume: year (two bytes, most significant first, 1 to
    9999), month, day, hour, minute. A slice of another length is refused as 7, like a date that is not valid.
@@ -41,7 +50,7 @@ extern "C" {
 
 /* The version of the library. The minor number goes up with each change that docs/changes/ has a note of. */
 #define ISC_VERSION_MAJOR 1
-#define ISC_VERSION_MINOR 3
+#define ISC_VERSION_MINOR 4
 #define ISC_VERSION (ISC_VERSION_MAJOR * 1000 + ISC_VERSION_MINOR)
 
 /* What a request answers. isc_number_text gives the words. */
@@ -53,7 +62,7 @@ enum isc_number {
     ISC_RULE = 4,          /* another book rule broken: isc_broken_rule says which */
     ISC_NOT_MOUNTED = 5,
     ISC_MOUNTED = 6,       /* mount of a mounted volume */
-    ISC_ARGUMENT = 7,      /* an argument not allowed here */
+    ISC_ARGUMENT = 7,      /* an argument not allowed here, or the withheld list */
     ISC_NO_FILE = 8,       /* no file of this id */
     ISC_STATE = 9,         /* temporarily deleted where active is needed, or the reverse */
     ISC_PROTECTED = 10,
@@ -83,6 +92,7 @@ enum {
     ISC_OWNER_CODE_MOST = 32,
     ISC_HEADER_MOST = 32762,      /* of a header's data */
     ISC_HEADER_SECTORS_MOST = 32, /* sectors of a header */
+    ISC_WITHHELD_MOST = 512,      /* withheld blocks */
     ISC_LIST_ENTRY = 64,          /* of one entry of isc_list */
     ISC_REPORT_TEXT = 192,        /* the least text that isc_report takes */
     ISC_BROKEN_TEXT = 64          /* the least text that isc_broken_text takes */
@@ -183,7 +193,7 @@ static inline const char *isc_rule_text(uint32_t rule) {
     case 4: return "each index table is free, a parent or a child, and the free chain meets each free one once";
     case 5: return "every child stands once in the chains, names its parent, has a pointer; all before it are full";
     case 6: return "used pointers come first, in whole blocks of types C to H; a file has one; headers lie in B zones";
-    case 7: return "no sector is under two pointers, headers' too, and those in use are those under pointers";
+    case 7: return "each sector in use is under just one pointer, header or withheld block, and no other is under any";
     case 8: return "each file's name, length, attribute and dates are allowed; a variable file has one zone type";
     case 9: return "the counts of sector 1 are true, and the flag is 0 or 1";
     default: return "no rule of this format";
@@ -209,11 +219,11 @@ uint32_t isc_format(uint8_t *books, size_t books_len,
                     const uint8_t *owner_code, size_t owner_code_len,
                     const uint8_t *date, size_t date_len);
 
-/* Sets the volume flag, and changes nothing else. Numbers: 1, 2, 3, 4, 6. */
-uint32_t isc_mount(uint8_t *books, size_t books_len);
+/* Sets the volume flag, and changes nothing else. Numbers: 1, 2, 3, 7 of the withheld list, 4, 6. */
+uint32_t isc_mount(uint8_t *books, size_t books_len, const uint32_t *withheld, size_t withheld_len);
 
 /* Clears the volume flag, and changes nothing else. Numbers: books. */
-uint32_t isc_dismount(uint8_t *books, size_t books_len);
+uint32_t isc_dismount(uint8_t *books, size_t books_len, const uint32_t *withheld, size_t withheld_len);
 
 /* Makes a file of fixed size. Numbers: books, 7, 12, 13.
    name   1 to 24 bytes, none of them null, '*' or '?'
@@ -222,7 +232,7 @@ uint32_t isc_dismount(uint8_t *books, size_t books_len);
    kind   enum isc_kind
    date   becomes the file's creation and change date, and the volume's latest update
    id     gets the new file's id */
-uint32_t isc_create_fixed(uint8_t *books, size_t books_len,
+uint32_t isc_create_fixed(uint8_t *books, size_t books_len, const uint32_t *withheld, size_t withheld_len,
                           const uint8_t *name, size_t name_len,
                           int32_t size, int32_t flag, uint32_t kind,
                           const uint8_t *date, size_t date_len,
@@ -231,7 +241,7 @@ uint32_t isc_create_fixed(uint8_t *books, size_t books_len,
 /* Makes a file of variable size, empty, with one block. Numbers: books, 7, 12, 13.
    cell   the bytes of its blocks, one of enum isc_cell
    name, kind, date, id   as for isc_create_fixed */
-uint32_t isc_create_variable(uint8_t *books, size_t books_len,
+uint32_t isc_create_variable(uint8_t *books, size_t books_len, const uint32_t *withheld, size_t withheld_len,
                              const uint8_t *name, size_t name_len,
                              int32_t cell, uint32_t kind,
                              const uint8_t *date, size_t date_len,
@@ -241,39 +251,39 @@ uint32_t isc_create_variable(uint8_t *books, size_t books_len,
    already. Numbers: books, 7, 8, 9, 10 (write-protected), 11, 12, 13.
    length   the wanted byte length, 0 or more
    date     becomes the change date and the latest update, if the file gets longer */
-uint32_t isc_grow(uint8_t *books, size_t books_len, uint32_t id, int32_t length,
-                  const uint8_t *date, size_t date_len);
+uint32_t isc_grow(uint8_t *books, size_t books_len, const uint32_t *withheld, size_t withheld_len,
+                  uint32_t id, int32_t length, const uint8_t *date, size_t date_len);
 
 /* Marks an active file as deleted; its id, pointers and data stay. Numbers: books, 7, 15, 8, 9,
    10 (write-protected).
    body   gets minus the id into the first four bytes of the file's header, and stays as it is if there is none
    date   becomes the change date and the latest update */
-uint32_t isc_temporary_delete(uint8_t *books, size_t books_len, uint8_t *body, size_t body_len,
-                              uint32_t id, const uint8_t *date, size_t date_len);
+uint32_t isc_temporary_delete(uint8_t *books, size_t books_len, const uint32_t *withheld, size_t withheld_len,
+                              uint8_t *body, size_t body_len, uint32_t id, const uint8_t *date, size_t date_len);
 
 /* Makes a temporarily deleted file active again. Numbers: books, 7, 15, 8, 9.
    body   gets the id into the first four bytes of the file's header, if it has one
    date   as for isc_temporary_delete */
-uint32_t isc_recover(uint8_t *books, size_t books_len, uint8_t *body, size_t body_len,
-                     uint32_t id, const uint8_t *date, size_t date_len);
+uint32_t isc_recover(uint8_t *books, size_t books_len, const uint32_t *withheld, size_t withheld_len,
+                     uint8_t *body, size_t body_len, uint32_t id, const uint8_t *date, size_t date_len);
 
 /* Gives a temporarily deleted file's blocks, header and index tables back. Numbers: books, 7, 15, 8, 9.
    body   gets 0 into the first four bytes of the file's header, if it has one
    date   becomes the latest update */
-uint32_t isc_actual_delete(uint8_t *books, size_t books_len, uint8_t *body, size_t body_len,
-                           uint32_t id, const uint8_t *date, size_t date_len);
+uint32_t isc_actual_delete(uint8_t *books, size_t books_len, const uint32_t *withheld, size_t withheld_len,
+                           uint8_t *body, size_t body_len, uint32_t id, const uint8_t *date, size_t date_len);
 
 /* Replaces an active file's protection. Numbers: books, 7, 8, 9.
    protection   0, 4, 8 or 12 (enum isc_protection)
    date         as for isc_temporary_delete */
-uint32_t isc_set_protection(uint8_t *books, size_t books_len, uint32_t id, uint32_t protection,
-                            const uint8_t *date, size_t date_len);
+uint32_t isc_set_protection(uint8_t *books, size_t books_len, const uint32_t *withheld, size_t withheld_len,
+                            uint32_t id, uint32_t protection, const uint8_t *date, size_t date_len);
 
 /* Finds the active files whose names match a pattern. Numbers: books, 7.
    pattern   1 to 24 bytes, none of them null; '*' is one character and '?' any string, also none
    ids       gets the files' ids, ascending, as many as it holds; what is past them stays
    count     gets how many match in all */
-uint32_t isc_search(const uint8_t *books, size_t books_len,
+uint32_t isc_search(const uint8_t *books, size_t books_len, const uint32_t *withheld, size_t withheld_len,
                     const uint8_t *pattern, size_t pattern_len,
                     uint32_t *ids, size_t ids_len, uint32_t *count);
 
@@ -282,42 +292,44 @@ uint32_t isc_search(const uint8_t *books, size_t books_len,
    entries   gets the first 64 bytes of each file's parent index (ISC_ENTRY_...), as many as fit whole; what
              is past them stays
    count     gets how many entries were put there */
-uint32_t isc_list(const uint8_t *books, size_t books_len, uint32_t from,
-                  uint8_t *entries, size_t entries_len, uint32_t *count);
+uint32_t isc_list(const uint8_t *books, size_t books_len, const uint32_t *withheld, size_t withheld_len,
+                  uint32_t from, uint8_t *entries, size_t entries_len, uint32_t *count);
 
 /* Finds a sector of an active file. Numbers: books, 8, 9, 14.
    k        which of the file's sectors, from 0; 14 past the last under a pointer
    sector   gets its number on the volume; it lies in the body at ISC_SECTOR x (sector - ISC_ZONE_SECTORS) */
-uint32_t isc_locate(const uint8_t *books, size_t books_len, uint32_t id, uint32_t k,
-                    uint32_t *sector);
+uint32_t isc_locate(const uint8_t *books, size_t books_len, const uint32_t *withheld, size_t withheld_len,
+                    uint32_t id, uint32_t k, uint32_t *sector);
 
 /* Counts sectors. Numbers: books.
    sectors   gets the volume's sectors, 1,024 x Z
-   used      gets how many of them are in use */
-uint32_t isc_space(const uint8_t *books, size_t books_len, uint32_t *sectors, uint32_t *used);
+   used      gets how many of them are in use, withheld ones too */
+uint32_t isc_space(const uint8_t *books, size_t books_len, const uint32_t *withheld, size_t withheld_len,
+                   uint32_t *sectors, uint32_t *used);
 
-/* Writes the report: eleven lines, or the line `refused=` with one of the numbers 1 to 4. The books need not be
-   mounted. Number: 7, if text has less than ISC_REPORT_TEXT bytes, before anything else is examined.
+/* Writes the report: eleven lines, or the line `refused=` with one of the numbers 1, 2, 3, 7 of the withheld list, 4.
+   The books need not be mounted. Number: 7, if text has less than ISC_REPORT_TEXT bytes, before anything else is
+   examined.
    text     gets the lines at its start; what is past them stays
    length   gets how many bytes they have */
-uint32_t isc_report(const uint8_t *books, size_t books_len,
+uint32_t isc_report(const uint8_t *books, size_t books_len, const uint32_t *withheld, size_t withheld_len,
                     uint8_t *text, size_t text_len, uint32_t *length);
 
 /* Says which book rule is broken: the lowest of R1 to R9, and in it the lowest place. It is done where others
-   answer 4, and the books need not be mounted. Numbers: 1, 2, 3.
+   answer 4, and the books need not be mounted. Numbers: 1, 2, 3, 7 of the withheld list.
    rule    gets 1 to 9 (isc_rule_text gives the words), or 0 if no rule is broken; the other two are then 0 too
    kind    gets what the place is (enum isc_place_kind): a sector for R1 and R7, a zone for R2 and R3, an index
            table for R4, R5, R6 and R8, a count for R4's free chain and for R9
    place   gets the number of the zone, of the sector on the volume or of the index table; 0 for a count */
-uint32_t isc_broken_rule(const uint8_t *books, size_t books_len,
+uint32_t isc_broken_rule(const uint8_t *books, size_t books_len, const uint32_t *withheld, size_t withheld_len,
                          uint32_t *rule, uint32_t *kind, uint32_t *place);
 
 /* Writes what isc_broken_rule says: three lines such as `rule=R5`, `kind=index` and `place=17`, with zone, sector,
-   index or count for the kind; or the line `rule=none`, or the line `refused=` with one of the numbers 1 to 3.
-   Number: 7, if text has less than ISC_BROKEN_TEXT bytes, before anything else is examined.
+   index or count for the kind; or the line `rule=none`, or the line `refused=` with one of the numbers 1, 2, 3, 7 of
+   the withheld list. Number: 7, if text has less than ISC_BROKEN_TEXT bytes, before anything else is examined.
    text     gets the lines at its start; what is past them stays
    length   gets how many bytes they have */
-uint32_t isc_broken_text(const uint8_t *books, size_t books_len,
+uint32_t isc_broken_text(const uint8_t *books, size_t books_len, const uint32_t *withheld, size_t withheld_len,
                          uint8_t *text, size_t text_len, uint32_t *length);
 
 /* Reads whole sectors of an active file. Numbers: books, 7, 15, 8, 9, 10 (read-protected), 14.
@@ -326,7 +338,7 @@ uint32_t isc_broken_text(const uint8_t *books, size_t books_len,
    exchange   0, or anything else to exchange the two bytes of each pair
    out        at least as long as the rounded length; what is past the bytes moved stays
    moved      gets how many bytes were moved: the rounded length, or what remains before the end if that is less */
-uint32_t isc_read(const uint8_t *books, size_t books_len,
+uint32_t isc_read(const uint8_t *books, size_t books_len, const uint32_t *withheld, size_t withheld_len,
                   const uint8_t *body, size_t body_len,
                   uint32_t id, int32_t position, int32_t length, uint32_t exchange,
                   uint8_t *out, size_t out_len, uint32_t *moved);
@@ -340,7 +352,7 @@ uint32_t isc_read(const uint8_t *books, size_t books_len,
    in         at least as long as the rounded length
    date       becomes the change date and the latest update, if any byte is written
    moved      gets how many bytes were written: the rounded length */
-uint32_t isc_write(uint8_t *books, size_t books_len,
+uint32_t isc_write(uint8_t *books, size_t books_len, const uint32_t *withheld, size_t withheld_len,
                    uint8_t *body, size_t body_len,
                    uint32_t id, int32_t position, int32_t length, uint32_t exchange,
                    const uint8_t *in, size_t in_len,
@@ -354,8 +366,8 @@ uint32_t isc_write(uint8_t *books, size_t books_len,
    body   gets the id, the length, the data and the nulls after it, in whole sectors, and the 0 of a replaced header
    data   at most 32,762 bytes, also none
    date   becomes the change date and the latest update */
-uint32_t isc_place_header(uint8_t *books, size_t books_len, uint8_t *body, size_t body_len,
-                          uint32_t id, const uint8_t *data, size_t data_len,
+uint32_t isc_place_header(uint8_t *books, size_t books_len, const uint32_t *withheld, size_t withheld_len,
+                          uint8_t *body, size_t body_len, uint32_t id, const uint8_t *data, size_t data_len,
                           const uint8_t *date, size_t date_len);
 
 /* A part of the body by its place: `len` bytes from body[at] on. */
@@ -367,22 +379,22 @@ typedef struct {
 /* Shows a sector of an active file as it lies in the body: the place of its 1,024 bytes, or on a refusal no bytes,
    at 0. isc_show_number with the same arguments gives the number.
    k   which of the file's sectors, from 0 */
-isc_place isc_show_place(const uint8_t *books, size_t books_len,
+isc_place isc_show_place(const uint8_t *books, size_t books_len, const uint32_t *withheld, size_t withheld_len,
                          const uint8_t *body, size_t body_len, uint32_t id, uint32_t k);
 
 /* The number of isc_show_place and isc_show. Numbers: books, 15, 8, 9, 10 (read-protected), 14. */
-uint32_t isc_show_number(const uint8_t *books, size_t books_len,
+uint32_t isc_show_number(const uint8_t *books, size_t books_len, const uint32_t *withheld, size_t withheld_len,
                          const uint8_t *body, size_t body_len, uint32_t id, uint32_t k);
 
 /* Shows the header of an active file as it lies in the body: the place of its whole sectors, ISC_SECTOR to
    ISC_HEADER_SECTORS_MOST x ISC_SECTOR bytes, or on a refusal no bytes, at 0. isc_header_number with the same arguments
    gives the number. */
-isc_place isc_header_place(const uint8_t *books, size_t books_len,
+isc_place isc_header_place(const uint8_t *books, size_t books_len, const uint32_t *withheld, size_t withheld_len,
                            const uint8_t *body, size_t body_len, uint32_t id);
 
 /* The number of isc_header_place and isc_show_header. Numbers: books, 15, 8, 9, 10 (read-protected), 14 (the file has
    no header). */
-uint32_t isc_header_number(const uint8_t *books, size_t books_len,
+uint32_t isc_header_number(const uint8_t *books, size_t books_len, const uint32_t *withheld, size_t withheld_len,
                            const uint8_t *body, size_t body_len, uint32_t id);
 
 /* A part of the body itself. */
@@ -392,9 +404,9 @@ typedef struct {
 } isc_part;
 
 /* isc_show_place, as a part of the body that was lent. */
-static inline isc_part isc_show(const uint8_t *books, size_t books_len,
+static inline isc_part isc_show(const uint8_t *books, size_t books_len, const uint32_t *withheld, size_t withheld_len,
                                 const uint8_t *body, size_t body_len, uint32_t id, uint32_t k) {
-    isc_place place = isc_show_place(books, books_len, body, body_len, id, k);
+    isc_place place = isc_show_place(books, books_len, withheld, withheld_len, body, body_len, id, k);
     isc_part part;
     part.at = body + place.at;
     part.len = place.len;
@@ -404,8 +416,9 @@ static inline isc_part isc_show(const uint8_t *books, size_t books_len,
 /* isc_header_place, as a part of the body that was lent. The data begin at ISC_HEADER_DATA. What another program put
    there may say a length that the part does not hold. */
 static inline isc_part isc_show_header(const uint8_t *books, size_t books_len,
+                                       const uint32_t *withheld, size_t withheld_len,
                                        const uint8_t *body, size_t body_len, uint32_t id) {
-    isc_place place = isc_header_place(books, books_len, body, body_len, id);
+    isc_place place = isc_header_place(books, books_len, withheld, withheld_len, body, body_len, id);
     isc_part part;
     part.at = body + place.at;
     part.len = place.len;

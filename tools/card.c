@@ -9,6 +9,11 @@
 #include <string.h>
 
 #define DATE_HELP "--date YYYY-MM-DDTHH:MM  the date to store; without it the local clock's\n"
+#define WITHHELD_USAGE "[--withheld LIST]"
+#define WITHHELD_HELP                                                                                              \
+    "--withheld LIST  the card's withheld blocks, its worn spots, which no file gets: a text with the first\n"     \
+    "                 sector of each, ascending, white space between them; # begins a comment to the line's end.\n" \
+    "                 A card that has such blocks needs the same list each time.\n"
 #define WORD_HELP                                                                                                  \
     "Digits alone are an id. Anything else is a name, compared exactly, with no patterns;\n"                       \
     "=123 is the name 123, and ==A is the name =A. A name that several files have is refused.\n"
@@ -65,8 +70,8 @@ static const struct command commands[] = {
      "break a book rule, it names the lowest one, R1 to R9, and in it the lowest zone, sector or index table.\n"},
     {"map", run_map, 1, 1, TAKES(OPTION_SVG), "IMAGE [--svg FILE]",
      "Draws each zone with its type (B for headers, C to H for data; . for an open zone, - for the tables' own), its\n"
-     "blocks in use and free, and its sectors.\n\n"
-     "--svg FILE     draws which file has which sector, as a picture\n"},
+     "blocks in use and free, and its sectors; withheld blocks are counted apart, and marked with x.\n\n"
+     "--svg FILE     draws which file has which sector, and which are withheld, as a picture\n"},
     {"repair", run_repair, 1, 1, TAKES(OPTION_FROM_BACKUP), "IMAGE [--from-backup]",
      "Makes zone 1 and the backup whole and equal again after a power cut, with the ids in headers as they say, and\n"
      "dismounts a volume that was left mounted. A whole zone 1 is what counts; where it is not whole the backup is.\n"
@@ -81,7 +86,8 @@ static void print_general_help(void) {
     puts("card COMMAND IMAGE ...: looks after an image of an IS&C volume, a file or a card of whole zones.\n");
     for (i = 0; i < COMMANDS; i++)
         printf("  card %s %s\n", commands[i].name, commands[i].usage);
-    puts("\n`card COMMAND --help` says more of a command, `card --version` which version this is.\n"
+    puts("\nEvery command but format takes " WITHHELD_USAGE " too, before the command or after it:\n" WITHHELD_HELP);
+    puts("`card COMMAND --help` says more of a command, `card --version` which version this is.\n"
          "The exit status is 0 for done, 1 for refused or failed, 2 for wrong usage.");
 }
 
@@ -119,6 +125,34 @@ static int refuse_name(const char *word) {
     return say_misuse("there is no command %s", word);
 }
 
+/* The words of --withheld before the command: the option, and the value where it is a word of its own. */
+static int leading_words(int count, char **words) {
+    static const char option[] = "--withheld";
+    int leading = 0;
+    while (leading < count && strncmp(words[leading], option, sizeof option - 1) == 0) {
+        char end = words[leading][sizeof option - 1];
+        if (end != '\0' && end != '=')
+            return leading;
+        leading += end == '=' ? 1 : 2;
+    }
+    return leading < count ? leading : count;
+}
+
+/* Moves `leading` words behind the next `named` ones. */
+static void move_behind(char **words, int leading, int named) {
+    for (; named > 0; named--, words++) {
+        char *word = words[leading];
+        memmove(words + 1, words, sizeof *words * (size_t)leading);
+        words[0] = word;
+    }
+}
+
+static void print_help(const struct command *command) {
+    int listed = command->run != run_format;
+    printf("card %s %s%s\n\n%s%s", command->name, command->usage, listed ? " " WITHHELD_USAGE : "", command->help,
+           listed ? WITHHELD_HELP : "");
+}
+
 static int run_command(const struct command *command, int count, char **words) {
     struct request request;
     int status;
@@ -128,7 +162,7 @@ static int run_command(const struct command *command, int count, char **words) {
         return status;
     if (request.options[OPTION_HELP] == NULL)
         return command->run(&request);
-    printf("card %s %s\n\n%s", command->name, command->usage, command->help);
+    print_help(command);
     return CARD_DONE;
 }
 
@@ -142,7 +176,7 @@ static int close_output(int status) {
 
 int main(int count, char **words) {
     const struct command *command;
-    int named;
+    int named, leading;
     image_watch();
     if (count < 2)
         return say_misuse("a command is needed");
@@ -154,8 +188,12 @@ int main(int count, char **words) {
         printf("card %d.%d\n", ISC_VERSION_MAJOR, ISC_VERSION_MINOR);
         return close_output(CARD_DONE);
     }
-    command = find_command(count - 1, words + 1, &named);
+    leading = leading_words(count - 1, words + 1);
+    if (leading == count - 1)
+        return say_misuse("a command is needed");
+    command = find_command(count - 1 - leading, words + 1 + leading, &named);
     if (command == NULL)
-        return refuse_name(words[1]);
+        return refuse_name(words[1 + leading]);
+    move_behind(words + 1, leading, named);
     return close_output(run_command(command, count - 1 - named, words + 1 + named));
 }

@@ -10,7 +10,7 @@ int change_file(const struct request *request, enum state state, change *change_
     uint32_t id;
     int status = request_date(request, date);
     if (status == CARD_DONE)
-        status = volume_open(&volume, request->operands[0], ACCESS_WRITE);
+        status = volume_open(&volume, request, ACCESS_WRITE);
     if (status != CARD_DONE)
         return status;
     status = entries_find(&volume, state, request->operands[1], &id);
@@ -28,20 +28,20 @@ static int answered(uint32_t number) {
 
 static int delete_temporarily(const struct request *request, struct volume *volume, uint32_t id, const uint8_t *date) {
     (void)request;
-    return answered(isc_temporary_delete(volume->books, volume->books_len, volume->body, volume->body_len, id, date,
-                                         ISC_DATE));
+    return answered(isc_temporary_delete(volume->books, volume->books_len, volume->withheld.at, volume->withheld.count,
+                                         volume->body, volume->body_len, id, date, ISC_DATE));
 }
 
 static int recover(const struct request *request, struct volume *volume, uint32_t id, const uint8_t *date) {
     (void)request;
-    return answered(isc_recover(volume->books, volume->books_len, volume->body, volume->body_len, id, date,
-                                ISC_DATE));
+    return answered(isc_recover(volume->books, volume->books_len, volume->withheld.at, volume->withheld.count,
+                                volume->body, volume->body_len, id, date, ISC_DATE));
 }
 
 static int delete_actually(const struct request *request, struct volume *volume, uint32_t id, const uint8_t *date) {
     (void)request;
-    return answered(isc_actual_delete(volume->books, volume->books_len, volume->body, volume->body_len, id, date,
-                                      ISC_DATE));
+    return answered(isc_actual_delete(volume->books, volume->books_len, volume->withheld.at, volume->withheld.count,
+                                      volume->body, volume->body_len, id, date, ISC_DATE));
 }
 
 static int protect(const struct request *request, struct volume *volume, uint32_t id, const uint8_t *date) {
@@ -50,7 +50,8 @@ static int protect(const struct request *request, struct volume *volume, uint32_
         protection += ISC_READ_PROTECTED;
     if (request->options[OPTION_WRITE] != NULL)
         protection += ISC_WRITE_PROTECTED;
-    return answered(isc_set_protection(volume->books, volume->books_len, id, protection, date, ISC_DATE));
+    return answered(isc_set_protection(volume->books, volume->books_len, volume->withheld.at, volume->withheld.count,
+                                       id, protection, date, ISC_DATE));
 }
 
 int run_rm(const struct request *request) {

@@ -28,7 +28,8 @@ int entries_take(const struct volume *volume, enum state state, struct entries *
     if (state == STATE_DELETED)
         take_deleted(volume->books, entries);
     else
-        number = isc_list(volume->books, volume->books_len, 1, entries->at, length, &entries->count);
+        number = isc_list(volume->books, volume->books_len, volume->withheld.at, volume->withheld.count, 1, entries->at,
+                          length, &entries->count);
     if (number == ISC_DONE)
         return CARD_DONE;
     entries_drop(entries);

@@ -21,6 +21,8 @@ static size_t sectors_needed(int32_t zones, int32_t indexes) {
 
 static int take_sizes(const struct request *request, int32_t *zones, int32_t *indexes) {
     const char *z = request->options[OPTION_ZONES], *n = request->options[OPTION_INDEXES];
+    if (request->options[OPTION_WITHHELD] != NULL)
+        return say_misuse("--withheld is not for format: a new volume has no zone with blocks to withhold");
     if (z == NULL || n == NULL)
         return say_misuse("--zones and --indexes are needed");
     if (!text_number(z, zones) || !text_number(n, indexes))

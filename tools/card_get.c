@@ -10,8 +10,8 @@
 
 static uint32_t read_part(const struct volume *volume, uint32_t id, size_t at, size_t length, uint8_t *part,
                           uint32_t *moved) {
-    return isc_read(volume->books, volume->books_len, volume->body, volume->body_len, id, (int32_t)at,
-                    (int32_t)length, 0, part, length, moved);
+    return isc_read(volume->books, volume->books_len, volume->withheld.at, volume->withheld.count, volume->body,
+                    volume->body_len, id, (int32_t)at, (int32_t)length, 0, part, length, moved);
 }
 
 /* Whether the file may be read at all, asked before any output is touched. An empty file has no position 0. */
@@ -49,8 +49,10 @@ static int get_data(const struct volume *volume, uint32_t id, const char *path) 
 }
 
 static int get_header(const struct volume *volume, uint32_t id, const char *path) {
-    isc_part part = isc_show_header(volume->books, volume->books_len, volume->body, volume->body_len, id);
-    uint32_t length, number = isc_header_number(volume->books, volume->books_len, volume->body, volume->body_len, id);
+    isc_part part = isc_show_header(volume->books, volume->books_len, volume->withheld.at, volume->withheld.count,
+                                    volume->body, volume->body_len, id);
+    uint32_t length, number = isc_header_number(volume->books, volume->books_len, volume->withheld.at,
+                                                volume->withheld.count, volume->body, volume->body_len, id);
     struct sink sink;
     int status;
     if (number == ISC_POSITION)
@@ -69,7 +71,7 @@ typedef int give(const struct volume *volume, uint32_t id, const char *path);
 static int run_give(const struct request *request, give *give_it) {
     struct volume volume;
     uint32_t id;
-    int status = volume_open(&volume, request->operands[0], ACCESS_READ);
+    int status = volume_open(&volume, request, ACCESS_READ);
     if (status != CARD_DONE)
         return status;
     status = entries_find(&volume, STATE_ACTIVE, request->operands[1], &id);

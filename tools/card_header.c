@@ -19,8 +19,8 @@ static int place(const struct request *request, struct volume *volume, uint32_t 
     uint32_t number;
     int status = input_take(&volume->image, request->operands[2], ISC_HEADER_MOST, &input);
     if (status == CARD_DONE) {
-        number = isc_place_header(volume->books, volume->books_len, volume->body, volume->body_len, id, input.bytes,
-                                  input.length, date, ISC_DATE);
+        number = isc_place_header(volume->books, volume->books_len, volume->withheld.at, volume->withheld.count,
+                                  volume->body, volume->body_len, id, input.bytes, input.length, date, ISC_DATE);
         status = number == ISC_DONE ? CARD_DONE : refuse(number, input.length);
     }
     input_drop(&input);

@@ -44,7 +44,8 @@ static int print_report(const struct volume *volume) {
     char text[ISC_REPORT_TEXT + 1];
     char *line, *at;
     uint32_t length;
-    uint32_t number = isc_report(volume->image.before, volume->books_len, (uint8_t *)text, ISC_REPORT_TEXT, &length);
+    uint32_t number = isc_report(volume->image.before, volume->books_len, volume->withheld.at, volume->withheld.count,
+                                 (uint8_t *)text, ISC_REPORT_TEXT, &length);
     if (number != ISC_DONE)
         return say_refusal(number);
     text[length] = '\0';
@@ -58,20 +59,23 @@ static int print_report(const struct volume *volume) {
 }
 
 static int print_space(const struct volume *volume) {
-    uint32_t sectors, used;
-    uint32_t number = isc_space(volume->books, volume->books_len, &sectors, &used);
+    uint32_t sectors, used, number, withheld = withheld_sectors(&volume->withheld, volume->books);
+    number = isc_space(volume->books, volume->books_len, volume->withheld.at, volume->withheld.count, &sectors, &used);
     if (number != ISC_DONE)
         return say_refusal(number);
     printf("%-18s %u sectors, %lu bytes\n", "space", (unsigned)sectors, (unsigned long)sectors * ISC_SECTOR);
     printf("%-18s %u sectors, %lu bytes\n", "space in use", (unsigned)used, (unsigned long)used * ISC_SECTOR);
     printf("%-18s %u sectors, %lu bytes\n", "space free", (unsigned)(sectors - used),
            (unsigned long)(sectors - used) * ISC_SECTOR);
+    if (volume->withheld.count > 0)
+        printf("%-18s %u sectors, %lu bytes, of those in use\n", "space withheld", (unsigned)withheld,
+               (unsigned long)withheld * ISC_SECTOR);
     return CARD_DONE;
 }
 
 int run_info(const struct request *request) {
     struct volume volume;
-    int status = volume_open(&volume, request->operands[0], ACCESS_READ);
+    int status = volume_open(&volume, request, ACCESS_READ);
     if (status != CARD_DONE)
         return status;
     print_label(&volume);
@@ -128,8 +132,8 @@ static void print_entries(const struct volume *volume, const struct entries *ent
 static int print_matching(const struct volume *volume, const char *pattern, const struct entries *entries) {
     static uint32_t ids[ISC_INDEXES_MOST];
     uint32_t count;
-    uint32_t number = isc_search(volume->books, volume->books_len, (const uint8_t *)pattern, strlen(pattern), ids,
-                                 ISC_INDEXES_MOST, &count);
+    uint32_t number = isc_search(volume->books, volume->books_len, volume->withheld.at, volume->withheld.count,
+                                 (const uint8_t *)pattern, strlen(pattern), ids, ISC_INDEXES_MOST, &count);
     if (number != ISC_DONE)
         return say_refusal(number);
     print_entries(volume, entries, ids, count);
@@ -144,7 +148,7 @@ int run_ls(const struct request *request) {
     int status;
     if (state == STATE_DELETED && pattern != NULL)
         return say_misuse("--deleted takes no pattern");
-    status = volume_open(&volume, request->operands[0], ACCESS_READ);
+    status = volume_open(&volume, request, ACCESS_READ);
     if (status != CARD_DONE)
         return status;
     status = entries_take(&volume, state, &entries);
@@ -160,7 +164,7 @@ int run_ls(const struct request *request) {
 }
 
 int run_check(const struct request *request) {
-    int status = volume_check(request->operands[0]);
+    int status = volume_check(request);
     if (status == CARD_DONE)
         puts("all book rules hold, and the backup is equal to zone 1");
     return status;

@@ -11,10 +11,12 @@
 
 enum { MARK_SECTORS = 16, MARKS = ISC_ZONE_SECTORS / MARK_SECTORS };
 
-/* The character for some sectors of a zone: # all in use, + some, . none. */
-static char mark_of(const uint8_t *books, uint32_t sector) {
+/* The character for some sectors of a zone: x some are withheld, # all in use, + some, . none. */
+static char mark_of(const uint8_t *books, const struct withheld *withheld, uint32_t sector) {
     int used = 0;
     uint32_t i;
+    if (withheld_meets(withheld, books, sector, MARK_SECTORS))
+        return 'x';
     for (i = 0; i < MARK_SECTORS; i++)
         used += books_sector_used(books, sector + i);
     if (used == 0)
@@ -22,25 +24,43 @@ static char mark_of(const uint8_t *books, uint32_t sector) {
     return used == MARK_SECTORS ? '#' : '+';
 }
 
-static void print_zone(const uint8_t *books, uint32_t zone) {
-    char letter = books_zone_letter(books, zone), bar[MARKS + 1];
-    uint32_t i;
-    for (i = 0; i < MARKS; i++)
-        bar[i] = mark_of(books, ISC_ZONE_SECTORS * (zone - 1) + MARK_SECTORS * i);
-    bar[MARKS] = '\0';
+/* The blocks of a zone; without a list there is no column for withheld ones, which are not counted as used. */
+static void print_blocks(const uint8_t *books, const struct withheld *withheld, uint32_t zone) {
+    char letter = books_zone_letter(books, zone);
+    uint32_t held = withheld_blocks(withheld, zone);
+    printf("%4u  %c  ", (unsigned)zone, letter);
     if (letter >= 'B' && letter <= 'H') {
         uint32_t blocks = ISC_ZONE_SECTORS / books_block(books, zone), free = books_free_blocks(books, zone);
-        printf("%4u  %c   %4u  %4u  %s\n", (unsigned)zone, letter, (unsigned)(blocks - free), (unsigned)free, bar);
+        printf(" %4u  %4u", (unsigned)(blocks - free - held), (unsigned)free);
     } else {
-        printf("%4u  %c      -     -  %s\n", (unsigned)zone, letter, bar);
+        printf("    -     -");
     }
+    if (withheld->count > 0 && letter >= 'C' && letter <= 'H')
+        printf("  %8u", (unsigned)held);
+    else if (withheld->count > 0)
+        printf("         -");
 }
 
-static void print_map(const uint8_t *books) {
+static void print_zone(const uint8_t *books, const struct withheld *withheld, uint32_t zone) {
+    char bar[MARKS + 1];
+    uint32_t i;
+    for (i = 0; i < MARKS; i++)
+        bar[i] = mark_of(books, withheld, ISC_ZONE_SECTORS * (zone - 1) + MARK_SECTORS * i);
+    bar[MARKS] = '\0';
+    print_blocks(books, withheld, zone);
+    printf("  %s\n", bar);
+}
+
+static void print_map(const uint8_t *books, const struct withheld *withheld) {
+    int some = withheld->count > 0;
     uint32_t zone;
-    puts("zone type used  free  sectors, 16 to a character: # in use, + in part, . free");
+    printf("zone type used  free%s  sectors, 16 to a character: # in use, + in part, %s. free\n",
+           some ? "  withheld" : "", some ? "x withheld, " : "");
     for (zone = 1; zone <= books_zones(books); zone++)
-        print_zone(books, zone);
+        print_zone(books, withheld, zone);
+    if (some)
+        printf("withheld blocks: %lu, sectors: %u\n", (unsigned long)withheld->count,
+               (unsigned)withheld_sectors(withheld, books));
 }
 
 static int draw(const struct volume *volume, const char *path) {
@@ -64,13 +84,13 @@ static int draw(const struct volume *volume, const char *path) {
 int run_map(const struct request *request) {
     const char *picture = request->options[OPTION_SVG];
     struct volume volume;
-    int status = volume_open(&volume, request->operands[0], ACCESS_READ);
+    int status = volume_open(&volume, request, ACCESS_READ);
     if (status != CARD_DONE)
         return status;
     if (picture != NULL)
         status = draw(&volume, picture);
     if (status == CARD_DONE)
-        print_map(volume.books);
+        print_map(volume.books, &volume.withheld);
     volume_close(&volume);
     return status;
 }

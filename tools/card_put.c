@@ -67,13 +67,14 @@ static uint32_t create(struct volume *volume, const struct wish *wish, const str
     size_t name_len = strlen(wish->name);
     uint32_t number;
     if (!wish->variable)
-        return isc_create_fixed(volume->books, volume->books_len, name, name_len, (int32_t)input->length, wish->types,
-                                wish->kind, wish->date, ISC_DATE, id);
-    number = isc_create_variable(volume->books, volume->books_len, name, name_len, wish->cell, wish->kind, wish->date,
-                                 ISC_DATE, id);
+        return isc_create_fixed(volume->books, volume->books_len, volume->withheld.at, volume->withheld.count, name,
+                                name_len, (int32_t)input->length, wish->types, wish->kind, wish->date, ISC_DATE, id);
+    number = isc_create_variable(volume->books, volume->books_len, volume->withheld.at, volume->withheld.count, name,
+                                 name_len, wish->cell, wish->kind, wish->date, ISC_DATE, id);
     /* All its blocks at once: then a refusal is that of the whole file, and not of its first part that has no room. */
     if (number == ISC_DONE)
-        number = isc_grow(volume->books, volume->books_len, *id, (int32_t)input->padded, wish->date, ISC_DATE);
+        number = isc_grow(volume->books, volume->books_len, volume->withheld.at, volume->withheld.count, *id,
+                          (int32_t)input->padded, wish->date, ISC_DATE);
     return number;
 }
 
@@ -84,8 +85,9 @@ static uint32_t store(struct volume *volume, const struct wish *wish, const stru
     progress_start(&progress, "in memory", input->padded);
     while (at < input->padded && number == ISC_DONE) {
         size_t part = input->padded - at < PROGRESS_STEP ? input->padded - at : PROGRESS_STEP;
-        number = isc_write(volume->books, volume->books_len, volume->body, volume->body_len, *id, (int32_t)at,
-                           (int32_t)part, 0, input->bytes + at, part, wish->date, ISC_DATE, &moved);
+        number = isc_write(volume->books, volume->books_len, volume->withheld.at, volume->withheld.count, volume->body,
+                           volume->body_len, *id, (int32_t)at, (int32_t)part, 0, input->bytes + at, part, wish->date,
+                           ISC_DATE, &moved);
         at += part;
         progress_at(&progress, at);
     }
@@ -122,7 +124,7 @@ int run_put(const struct request *request) {
     struct input input;
     int status = take_wish(request, &wish);
     if (status == CARD_DONE)
-        status = volume_open(&volume, request->operands[0], ACCESS_WRITE);
+        status = volume_open(&volume, request, ACCESS_WRITE);
     if (status != CARD_DONE)
         return status;
     status = input_take(&volume.image, request->operands[1], volume.body_len, &input);

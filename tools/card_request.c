@@ -22,6 +22,7 @@ static const struct {
     [OPTION_SVG] = {"--svg", 1},
     [OPTION_TYPES] = {"--types", 1},
     [OPTION_VARIABLE] = {"--variable", 1},
+    [OPTION_WITHHELD] = {"--withheld", 1},
     [OPTION_WRITE] = {"--write", 0},
     [OPTION_ZONES] = {"--zones", 1},
 };
@@ -50,7 +51,7 @@ static int take_option(const struct command *command, const char *word, struct w
                        struct request *request) {
     enum option option = find_option(word);
     const char *equals = strchr(word, '=');
-    if (option == OPTIONS || ((command->takes | TAKES(OPTION_HELP)) & TAKES(option)) == 0)
+    if (option == OPTIONS || ((command->takes | TAKES(OPTION_HELP) | TAKES(OPTION_WITHHELD)) & TAKES(option)) == 0)
         return say_misuse("there is no option %s", word);
     if (request->options[option] != NULL)
         return say_misuse("%s is given twice", forms[option].word);

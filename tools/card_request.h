@@ -18,6 +18,7 @@ enum option {
     OPTION_SVG,
     OPTION_TYPES,
     OPTION_VARIABLE,
+    OPTION_WITHHELD,
     OPTION_WRITE,
     OPTION_ZONES,
     OPTIONS
@@ -37,7 +38,7 @@ struct command {
     const char *name;
     int (*run)(const struct request *request); /* returns the exit status */
     int least, most;                           /* how many operands */
-    unsigned long takes;                       /* which options, besides --help */
+    unsigned long takes;                       /* which options, besides --help and --withheld */
     const char *usage;                         /* what follows the name */
     const char *help;
 };

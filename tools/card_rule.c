@@ -12,14 +12,17 @@ static const char *place_word(uint32_t kind) {
     }
 }
 
-void rule_say(const uint8_t *books, size_t books_len) {
+void rule_say(const uint8_t *books, size_t books_len, const struct withheld *withheld) {
+    enum { SECTORS_RULE = 7 }; /* R7, the one that speaks of withheld blocks */
     uint32_t rule, kind, place;
     const char *word;
-    if (isc_broken_rule(books, books_len, &rule, &kind, &place) != ISC_DONE || rule == 0)
+    if (isc_broken_rule(books, books_len, withheld->at, withheld->count, &rule, &kind, &place) != ISC_DONE || rule == 0)
         return;
     word = place_word(kind);
     if (word != NULL)
         say_note("rule R%u is broken, first at %s %u: %s", (unsigned)rule, word, (unsigned)place, isc_rule_text(rule));
     else
         say_note("rule R%u is broken: %s", (unsigned)rule, isc_rule_text(rule));
+    if (rule == SECTORS_RULE && withheld->count == 0)
+        say_note("if the card has withheld blocks, their list is needed: --withheld LIST");
 }

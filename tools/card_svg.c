@@ -1,5 +1,5 @@
-/* A picture of which file has which sector: a row for each zone, a column for each sector, a colour for each file, and
-   below them a legend. */
+/* A picture of which file has which sector, and which are withheld: a row for each zone, a column for each sector, a
+   colour for each file, and below them a legend. */
 #include "card_svg.h"
 #include "card_books.h"
 #include "card_text.h"
@@ -100,31 +100,61 @@ static void draw_zones(FILE *out, const struct volume *volume) {
     fputs(" fill=\"#404040\"><title>the backup of the books</title></rect>\n", out);
 }
 
+/* Withheld blocks are black, which is no file's colour. A block lies in one zone. */
+static void draw_withheld(FILE *out, const struct volume *volume) {
+    size_t i;
+    for (i = 0; i < volume->withheld.count; i++) {
+        uint32_t start = volume->withheld.at[i], count = books_block(volume->books, start / ISC_ZONE_SECTORS + 1);
+        put_place(out, start, count);
+        fprintf(out, " fill=\"black\"><title>withheld: sectors %u to %u</title></rect>\n", (unsigned)start,
+                (unsigned)(start + count - 1));
+    }
+}
+
+/* The square at place `n` of the legend, which its fill follows, and its text, which the words follow. */
+static void put_square(FILE *out, uint32_t n, uint32_t top) {
+    fprintf(out, "<rect x=\"%u\" y=\"%u\" width=\"12\" height=\"%d\"", (unsigned)(16 + COLUMN * (n % COLUMNS)),
+            (unsigned)(top + ROW * (n / COLUMNS)), BAR);
+}
+
+static void put_words(FILE *out, uint32_t n, uint32_t top) {
+    fprintf(out, "/>\n<text x=\"%u\" y=\"%u\">", (unsigned)(16 + 18 + COLUMN * (n % COLUMNS)),
+            (unsigned)(top + ROW * (n / COLUMNS) + BAR - 2));
+}
+
 /* One file of the legend, at place `n`. */
 static void draw_key(FILE *out, const uint8_t *table, uint32_t n, uint32_t top) {
-    unsigned x = 16 + COLUMN * (n % COLUMNS), y = top + ROW * (n / COLUMNS);
     int deleted = (books_u16(table + ISC_ENTRY_ATTRIBUTE) & ISC_WEIGHT_DELETED) != 0;
-    fprintf(out, "<rect x=\"%u\" y=\"%u\" width=\"12\" height=\"%d\"", x, y, BAR);
+    put_square(out, n, top);
     put_fill(out, table);
-    fprintf(out, "/>\n<text x=\"%u\" y=\"%u\">%u ", x + 18, y + BAR - 2, (unsigned)books_u32(table + ISC_ENTRY_ID));
+    put_words(out, n, top);
+    fprintf(out, "%u ", (unsigned)books_u32(table + ISC_ENTRY_ID));
     put_name(out, table + ISC_ENTRY_NAME, ISC_NAME_MOST);
     fprintf(out, "%s</text>\n", deleted ? " (deleted)" : "");
 }
 
+static void draw_withheld_key(FILE *out, const struct volume *volume, uint32_t n, uint32_t top) {
+    put_square(out, n, top);
+    fputs(" fill=\"black\"", out);
+    put_words(out, n, top);
+    fprintf(out, "withheld blocks: %lu, sectors: %u</text>\n", (unsigned long)volume->withheld.count,
+            (unsigned)withheld_sectors(&volume->withheld, volume->books));
+}
+
 void svg_draw(const struct volume *volume, FILE *out) {
     const uint8_t *books = volume->books;
-    uint32_t indexes = books_indexes(books), id, n = 0, files = 0;
+    uint32_t indexes = books_indexes(books), id, n = 0, keys = volume->withheld.count > 0;
     uint32_t legend = TOP + ROW * books_zones(books) + ROW;
     for (id = 1; id <= indexes; id++)
-        files += (uint32_t)books_is_file(books, id);
+        keys += (uint32_t)books_is_file(books, id);
     fprintf(out, "<?xml version=\"1.0\" encoding=\"UTF-8\"?>\n<svg xmlns=\"http://www.w3.org/2000/svg\" width=\"%d\" "
             "height=\"%u\" font-family=\"monospace\" font-size=\"10\">\n", WIDTH,
-            (unsigned)(legend + ROW * ((files + COLUMNS - 1) / COLUMNS) + ROW));
+            (unsigned)(legend + ROW * ((keys + COLUMNS - 1) / COLUMNS) + ROW));
     fputs("<rect width=\"100%\" height=\"100%\" fill=\"white\"/>\n"
           "<text x=\"16\" y=\"22\" font-size=\"14\">volume ", out);
     put_name(out, books + LABEL_VOLUME_NAME, ISC_VOLUME_NAME_MOST);
     fputs("</text>\n<text x=\"16\" y=\"37\">a row is a zone with its type, a column a sector; dark: books and their "
-          "backup; pale: temporarily deleted</text>\n", out);
+          "backup; pale: temporarily deleted; black: withheld</text>\n", out);
     draw_zones(out, volume);
     for (id = 1; id <= indexes; id++) {
         if (books_is_file(books, id)) {
@@ -132,5 +162,8 @@ void svg_draw(const struct volume *volume, FILE *out) {
             draw_key(out, books_index(books, id), n++, legend);
         }
     }
+    draw_withheld(out, volume);
+    if (volume->withheld.count > 0)
+        draw_withheld_key(out, volume, n, legend);
     fputs("</svg>\n", out);
 }

@@ -19,25 +19,33 @@ size_t volume_books(const uint8_t *copy, size_t length) {
 }
 
 /* The number in the line `refused=` of a report, or 0. */
-static uint32_t report_number(const uint8_t *copy, size_t books_len) {
+static uint32_t report_number(const struct withheld *withheld, const uint8_t *copy, size_t books_len) {
     static const char refused[] = "refused=";
     uint8_t text[ISC_REPORT_TEXT];
     uint32_t length;
-    uint32_t number = isc_report(copy, books_len, text, sizeof text, &length);
+    uint32_t number = isc_report(copy, books_len, withheld->at, withheld->count, text, sizeof text, &length);
     if (number == ISC_DONE && length > sizeof refused && memcmp(text, refused, sizeof refused - 1) == 0)
         number = (uint32_t)(text[sizeof refused - 1] - '0');
     return number;
 }
 
-uint32_t volume_examine(const struct image *image, const uint8_t *copy, size_t length) {
-    uint32_t number = report_number(copy, volume_books(copy, length));
+uint32_t volume_examine(const struct image *image, const struct withheld *withheld, const uint8_t *copy,
+                        size_t length) {
+    uint32_t number = report_number(withheld, copy, volume_books(copy, length));
     if (number == ISC_DONE && (size_t)ISC_ZONE * books_zones(copy) != image->length)
         number = ISC_BODY_LENGTH;
     return number;
 }
 
-static int refuse_books(const struct image *image, uint32_t number) {
-    say_refusal(number);
+int volume_refuse(const struct withheld *withheld, const uint8_t *copy, uint32_t number) {
+    return number == ISC_ARGUMENT ? withheld_refuse(withheld, copy) : say_refusal(number);
+}
+
+static int refuse_books(const struct volume *volume, uint32_t number) {
+    const struct image *image = &volume->image;
+    int status = volume_refuse(&volume->withheld, image->before, number);
+    if (number == ISC_ARGUMENT)
+        return status;
     if (number == ISC_BODY_LENGTH)
         say_note("a volume of %u zones is %lu bytes long, and the image is not", (unsigned)books_zones(image->before),
                  (unsigned long)ISC_ZONE * books_zones(image->before));
@@ -45,20 +53,20 @@ static int refuse_books(const struct image *image, uint32_t number) {
         say_note("`card repair %s` says whether the backup has better tables", image->path);
     else if (image_has_zones(image) && volume_has_mark(image->before + image_backup(image), ISC_ZONE))
         say_note("zone 1 is not whole: `card repair %s` makes it from the backup", image->path);
-    return CARD_REFUSED;
+    return status;
 }
 
 /* Sees that the volume as it stands on the file is whole, and mounts it in memory. */
 static int mount(struct volume *volume) {
     const struct image *image = &volume->image;
-    uint32_t number = volume_examine(image, image->before, image->mapped);
+    uint32_t number = volume_examine(image, &volume->withheld, image->before, image->mapped);
     if (number != ISC_DONE)
-        return refuse_books(image, number);
+        return refuse_books(volume, number);
     volume->books = image->now;
     volume->books_len = volume_books(image->now, image->mapped);
     volume->body = image->now + ISC_ZONE;
     volume->body_len = image->length - 2 * (size_t)ISC_ZONE;
-    number = isc_mount(volume->books, volume->books_len);
+    number = isc_mount(volume->books, volume->books_len, volume->withheld.at, volume->withheld.count);
     if (number != ISC_DONE) {
         say_refusal(number);
         say_note("it was left so: `card repair %s` dismounts it", image->path);
@@ -69,8 +77,14 @@ static int mount(struct volume *volume) {
     return CARD_DONE;
 }
 
-int volume_open(struct volume *volume, const char *path, enum access access) {
-    int status = image_open(&volume->image, path, access);
+/* The list comes first: nothing is open if it cannot be read. */
+static int open_image(struct volume *volume, const struct request *request, enum access access) {
+    int status = withheld_take(request->options[OPTION_WITHHELD], &volume->withheld);
+    return status == CARD_DONE ? image_open(&volume->image, request->operands[0], access) : status;
+}
+
+int volume_open(struct volume *volume, const struct request *request, enum access access) {
+    int status = open_image(volume, request, access);
     if (status != CARD_DONE)
         return status;
     status = mount(volume);
@@ -79,15 +93,15 @@ int volume_open(struct volume *volume, const char *path, enum access access) {
     return status;
 }
 
-int volume_check(const char *path) {
+int volume_check(const struct request *request) {
     struct volume volume;
     const struct image *image = &volume.image;
-    int status = image_open(&volume.image, path, ACCESS_READ);
+    int status = open_image(&volume, request, ACCESS_READ);
     if (status != CARD_DONE)
         return status;
     status = mount(&volume);
     if (status != CARD_DONE)
-        rule_say(image->before, volume_books(image->before, image->mapped));
+        rule_say(image->before, volume_books(image->before, image->mapped), &volume.withheld);
     image_close(&volume.image);
     return status;
 }
@@ -138,9 +152,10 @@ static int save_new_header(const struct volume *volume, uint32_t file) {
 
 int volume_save(struct volume *volume, uint32_t file, enum part part) {
     uint8_t *now = volume->image.now;
-    uint32_t start, count, number = isc_dismount(volume->books, volume->books_len);
+    uint32_t start, count, number;
     size_t id_at = 0;
     int status;
+    number = isc_dismount(volume->books, volume->books_len, volume->withheld.at, volume->withheld.count);
     if (number != ISC_DONE)
         return say_refusal(number);
     memcpy(now + image_backup(&volume->image), now, ISC_ZONE);

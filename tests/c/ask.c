@@ -4,6 +4,7 @@
 #include <string.h>
 
 static uint8_t then_books[BOOKS_MOST];
+static uint32_t now_withheld[WITHHELD_MOST];
 
 struct slice text(const char *words) {
     struct slice s;
@@ -19,10 +20,13 @@ static struct slice slice_of(const uint8_t *at, size_t len) {
     return s;
 }
 
-/* Lends the books of another volume; the body has "1,048,576 x (Z-2) bytes". */
+/* Lends the books and the withheld list of another volume; the body has "1,048,576 x (Z-2) bytes". */
 void restand(struct request *r, const struct volume *v) {
     paper_books(v, now_books);
     r->books = slice_of(now_books, 1024 * (size_t)v->sectors);
+    memcpy(now_withheld, v->withheld, sizeof now_withheld);
+    r->withheld = now_withheld;
+    r->withheld_len = v->withheld_count;
     r->body = slice_of(now_body, 1048576 * (size_t)(v->zones - 2));
 }
 
@@ -62,14 +66,19 @@ struct request ask(enum call call, const struct volume *v) {
     return r;
 }
 
-/* "Every refusal returns zeros beside its number and alters no lent byte." The report and the text of the broken rule
-   are always done, and say the books' refusal in their lines. */
+/* The report and the text of the broken rule are done where the text is long enough, and say the refusal in their
+   lines. */
+static int says(const struct request *r) {
+    return (r->call == REPORT && r->room >= 192) || (r->call == BROKEN_TEXT && r->room >= 64);
+}
+
+/* "Every refusal returns zeros beside its number and alters no lent byte." */
 void refused_at(const struct request *r, uint32_t number, const char *file, int line) {
     struct answer a;
     char words[20];
     memset(&a, 0, sizeof a);
     a.number = number;
-    if ((r->call == REPORT || r->call == BROKEN_TEXT) && number != 7) {
+    if (says(r)) {
         a.number = 0;
         a.value[0] = (uint32_t)snprintf(words, sizeof words, "refused=%u\n", number);
         a.filled = text(words);

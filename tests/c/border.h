@@ -25,7 +25,7 @@ void read_only(const struct lent *lent);
 int take_back(const struct lent *lent); /* 1 if the bytes around it are as they were */
 
 /* paper.c: volumes, and their books as the paper lays them out. */
-enum { RUNS_MOST = 64, FILES_MOST = 36, CHAIN_MOST = 8, CHILDREN_MOST = 4 };
+enum { RUNS_MOST = 64, FILES_MOST = 36, CHAIN_MOST = 8, CHILDREN_MOST = 4, WITHHELD_MOST = 512 };
 enum { TYPE_B = 2, TYPE_C, TYPE_D, TYPE_E, TYPE_F, TYPE_G, TYPE_H };
 
 struct run {
@@ -54,6 +54,8 @@ struct volume {
     uint32_t files_count;
     struct file files[FILES_MOST];
     uint32_t chain[CHAIN_MOST]; /* the free chain's head; the other free tables follow, ascending */
+    uint32_t withheld_count;
+    uint32_t withheld[WITHHELD_MOST]; /* the first sectors of its withheld blocks, ascending */
     int noise;                  /* bytes that the paper does not name are not zero */
 };
 
@@ -64,6 +66,7 @@ struct volume mounted(uint32_t zones, uint32_t indexes, uint32_t sectors);
 struct volume spread(uint32_t zones, uint32_t indexes);
 struct file *put(struct volume *v, uint32_t id, const char *name, uint32_t length, uint32_t attribute);
 void run(struct file *f, uint32_t start, uint32_t count);
+void withhold(struct volume *v, uint32_t start);
 struct volume desk(int child);
 struct volume curve(uint32_t attribute);
 struct volume rack(void);
@@ -92,6 +95,8 @@ struct slice {
 struct request {
     enum call call;
     struct slice books, body;
+    const uint32_t *withheld; /* the list, of withheld_len numbers */
+    size_t withheld_len;
     struct slice name; /* of a create, or the pattern of a search */
     struct slice date, in; /* in: the data of a write or of a header */
     struct slice texts[4]; /* of format, in its order */
@@ -150,6 +155,7 @@ void test_read(void);
 void test_write(void);
 void test_show(void);
 void test_place(void);
+void test_withheld(void);
 void test_cards(void);
 void test_words(void);
 

@@ -8,7 +8,9 @@ uint8_t now_books[BOOKS_MOST], now_body[BODY_MOST], then_body[BODY_MOST], ink[BO
 
 /* What is lent for a call. */
 struct loan {
-    struct lent books, body, name, date, in, texts[4], fill, value[VALUES_MOST];
+    struct lent books, withheld, body, name, date, in, texts[4], fill, value[VALUES_MOST];
+    const uint32_t *list; /* the withheld one, as the functions take it */
+    size_t list_len;
     const char *file;
     int line;
 };
@@ -23,85 +25,90 @@ static uint32_t call_format(const struct request *r, struct loan *l) {
 
 static uint32_t call_mount(const struct request *r, struct loan *l) {
     (void)r;
-    return isc_mount(l->books.at, l->books.len);
+    return isc_mount(l->books.at, l->books.len, l->list, l->list_len);
 }
 
 static uint32_t call_dismount(const struct request *r, struct loan *l) {
     (void)r;
-    return isc_dismount(l->books.at, l->books.len);
+    return isc_dismount(l->books.at, l->books.len, l->list, l->list_len);
 }
 
 static uint32_t call_create_fixed(const struct request *r, struct loan *l) {
-    return isc_create_fixed(l->books.at, l->books.len, l->name.at, l->name.len, r->size, r->flag, r->kind, l->date.at,
-                            l->date.len, value_of(l, 0));
+    return isc_create_fixed(l->books.at, l->books.len, l->list, l->list_len, l->name.at, l->name.len, r->size, r->flag,
+                            r->kind, l->date.at, l->date.len, value_of(l, 0));
 }
 
 static uint32_t call_create_variable(const struct request *r, struct loan *l) {
-    return isc_create_variable(l->books.at, l->books.len, l->name.at, l->name.len, r->cell, r->kind, l->date.at,
-                               l->date.len, value_of(l, 0));
+    return isc_create_variable(l->books.at, l->books.len, l->list, l->list_len, l->name.at, l->name.len, r->cell,
+                               r->kind, l->date.at, l->date.len, value_of(l, 0));
 }
 
 static uint32_t call_grow(const struct request *r, struct loan *l) {
-    return isc_grow(l->books.at, l->books.len, r->id, r->length, l->date.at, l->date.len);
+    return isc_grow(l->books.at, l->books.len, l->list, l->list_len, r->id, r->length, l->date.at, l->date.len);
 }
 
 static uint32_t call_temporary_delete(const struct request *r, struct loan *l) {
-    return isc_temporary_delete(l->books.at, l->books.len, l->body.at, l->body.len, r->id, l->date.at, l->date.len);
+    return isc_temporary_delete(l->books.at, l->books.len, l->list, l->list_len, l->body.at, l->body.len, r->id,
+                                l->date.at, l->date.len);
 }
 
 static uint32_t call_recover(const struct request *r, struct loan *l) {
-    return isc_recover(l->books.at, l->books.len, l->body.at, l->body.len, r->id, l->date.at, l->date.len);
+    return isc_recover(l->books.at, l->books.len, l->list, l->list_len, l->body.at, l->body.len, r->id, l->date.at,
+                       l->date.len);
 }
 
 static uint32_t call_actual_delete(const struct request *r, struct loan *l) {
-    return isc_actual_delete(l->books.at, l->books.len, l->body.at, l->body.len, r->id, l->date.at, l->date.len);
+    return isc_actual_delete(l->books.at, l->books.len, l->list, l->list_len, l->body.at, l->body.len, r->id,
+                             l->date.at, l->date.len);
 }
 
 static uint32_t call_set_protection(const struct request *r, struct loan *l) {
-    return isc_set_protection(l->books.at, l->books.len, r->id, r->protection, l->date.at, l->date.len);
+    return isc_set_protection(l->books.at, l->books.len, l->list, l->list_len, r->id, r->protection, l->date.at,
+                              l->date.len);
 }
 
 static uint32_t call_search(const struct request *r, struct loan *l) {
-    return isc_search(l->books.at, l->books.len, l->name.at, l->name.len, (uint32_t *)(void *)l->fill.at, r->room,
-                      value_of(l, 0));
+    return isc_search(l->books.at, l->books.len, l->list, l->list_len, l->name.at, l->name.len,
+                      (uint32_t *)(void *)l->fill.at, r->room, value_of(l, 0));
 }
 
 static uint32_t call_list(const struct request *r, struct loan *l) {
-    return isc_list(l->books.at, l->books.len, r->from, l->fill.at, l->fill.len, value_of(l, 0));
+    return isc_list(l->books.at, l->books.len, l->list, l->list_len, r->from, l->fill.at, l->fill.len, value_of(l, 0));
 }
 
 static uint32_t call_locate(const struct request *r, struct loan *l) {
-    return isc_locate(l->books.at, l->books.len, r->id, r->k, value_of(l, 0));
+    return isc_locate(l->books.at, l->books.len, l->list, l->list_len, r->id, r->k, value_of(l, 0));
 }
 
 static uint32_t call_space(const struct request *r, struct loan *l) {
     (void)r;
-    return isc_space(l->books.at, l->books.len, value_of(l, 0), value_of(l, 1));
+    return isc_space(l->books.at, l->books.len, l->list, l->list_len, value_of(l, 0), value_of(l, 1));
 }
 
 static uint32_t call_report(const struct request *r, struct loan *l) {
     (void)r;
-    return isc_report(l->books.at, l->books.len, l->fill.at, l->fill.len, value_of(l, 0));
+    return isc_report(l->books.at, l->books.len, l->list, l->list_len, l->fill.at, l->fill.len, value_of(l, 0));
 }
 
 static uint32_t call_broken_rule(const struct request *r, struct loan *l) {
     (void)r;
-    return isc_broken_rule(l->books.at, l->books.len, value_of(l, 0), value_of(l, 1), value_of(l, 2));
+    return isc_broken_rule(l->books.at, l->books.len, l->list, l->list_len, value_of(l, 0), value_of(l, 1),
+                           value_of(l, 2));
 }
 
 static uint32_t call_broken_text(const struct request *r, struct loan *l) {
     (void)r;
-    return isc_broken_text(l->books.at, l->books.len, l->fill.at, l->fill.len, value_of(l, 0));
+    return isc_broken_text(l->books.at, l->books.len, l->list, l->list_len, l->fill.at, l->fill.len, value_of(l, 0));
 }
 
 static uint32_t call_read(const struct request *r, struct loan *l) {
-    return isc_read(l->books.at, l->books.len, l->body.at, l->body.len, r->id, r->position, r->length, r->exchange,
-                    l->fill.at, l->fill.len, value_of(l, 0));
+    return isc_read(l->books.at, l->books.len, l->list, l->list_len, l->body.at, l->body.len, r->id, r->position,
+                    r->length, r->exchange, l->fill.at, l->fill.len, value_of(l, 0));
 }
 
 static uint32_t call_write(const struct request *r, struct loan *l) {
-    return isc_write(l->books.at, l->books.len, l->body.at, l->body.len, r->id, r->position, r->length, r->exchange,
-                     l->in.at, l->in.len, l->date.at, l->date.len, value_of(l, 0));
+    return isc_write(l->books.at, l->books.len, l->list, l->list_len, l->body.at, l->body.len, r->id, r->position,
+                     r->length, r->exchange, l->in.at, l->in.len, l->date.at, l->date.len, value_of(l, 0));
 }
 
 /* Both shows are three functions: the place, the part that isc.h makes of it, and the number. */
@@ -115,23 +122,25 @@ static void take_place(struct loan *l, const char *name, isc_place place, isc_pa
 }
 
 static uint32_t call_show(const struct request *r, struct loan *l) {
-    take_place(l, "isc_show", isc_show_place(l->books.at, l->books.len, l->body.at, l->body.len, r->id, r->k),
-               isc_show(l->books.at, l->books.len, l->body.at, l->body.len, r->id, r->k));
-    return isc_show_number(l->books.at, l->books.len, l->body.at, l->body.len, r->id, r->k);
+    take_place(l, "isc_show",
+               isc_show_place(l->books.at, l->books.len, l->list, l->list_len, l->body.at, l->body.len, r->id, r->k),
+               isc_show(l->books.at, l->books.len, l->list, l->list_len, l->body.at, l->body.len, r->id, r->k));
+    return isc_show_number(l->books.at, l->books.len, l->list, l->list_len, l->body.at, l->body.len, r->id, r->k);
 }
 
 static uint32_t call_place_header(const struct request *r, struct loan *l) {
-    return isc_place_header(l->books.at, l->books.len, l->body.at, l->body.len, r->id, l->in.at, l->in.len, l->date.at,
-                            l->date.len);
+    return isc_place_header(l->books.at, l->books.len, l->list, l->list_len, l->body.at, l->body.len, r->id, l->in.at,
+                            l->in.len, l->date.at, l->date.len);
 }
 
 static uint32_t call_show_header(const struct request *r, struct loan *l) {
-    take_place(l, "isc_show_header", isc_header_place(l->books.at, l->books.len, l->body.at, l->body.len, r->id),
-               isc_show_header(l->books.at, l->books.len, l->body.at, l->body.len, r->id));
-    return isc_header_number(l->books.at, l->books.len, l->body.at, l->body.len, r->id);
+    take_place(l, "isc_show_header",
+               isc_header_place(l->books.at, l->books.len, l->list, l->list_len, l->body.at, l->body.len, r->id),
+               isc_show_header(l->books.at, l->books.len, l->list, l->list_len, l->body.at, l->body.len, r->id));
+    return isc_header_number(l->books.at, l->books.len, l->list, l->list_len, l->body.at, l->body.len, r->id);
 }
 
-/* Which slices a call takes, beside the books, and which of them it may write. */
+/* Which slices a call takes, beside the books and the withheld list, and which of them it may write. */
 enum { BOOKS_WRITTEN = 1, BODY = 2, BODY_WRITTEN = 4, NAME = 8, DATE = 16, IN = 32, TEXTS = 64 };
 
 static const struct {
@@ -166,6 +175,14 @@ static const struct {
 
 const char *call_name(enum call call) { return calls[call].name; }
 
+/* The withheld list, also an empty one, ends where an untouchable page begins: there its numbers are aligned. */
+static void lend_withheld(const struct request *r, struct loan *l) {
+    l->withheld = lend_copy(r->withheld, sizeof(uint32_t) * r->withheld_len, 0);
+    read_only(&l->withheld);
+    l->list = (const uint32_t *)(void *)l->withheld.at;
+    l->list_len = r->withheld_len;
+}
+
 /* A slice that the call does not take is lent empty. */
 static struct lent lend_slice(struct slice s, int taken, int written) {
     struct lent lent;
@@ -181,6 +198,7 @@ static struct lent lend_slice(struct slice s, int taken, int written) {
 static void lend_all(const struct request *r, struct loan *l) {
     int i, takes = calls[r->call].takes;
     l->books = lend_slice(r->books, 1, takes & BOOKS_WRITTEN);
+    lend_withheld(r, l);
     l->body = lend_slice(r->body, takes & BODY, takes & BODY_WRITTEN);
     l->name = lend_slice(r->name, takes & NAME, 0);
     l->date = lend_slice(r->date, takes & DATE, 0);
@@ -199,9 +217,10 @@ static void lend_all(const struct request *r, struct loan *l) {
 }
 
 static void take_all_back(const struct request *r, struct loan *l) {
-    struct lent *all[10 + VALUES_MOST];
+    struct lent *all[11 + VALUES_MOST];
     int i, count = 0;
     all[count++] = &l->books;
+    all[count++] = &l->withheld;
     all[count++] = &l->body;
     all[count++] = &l->name;
     all[count++] = &l->date;

@@ -6,8 +6,8 @@
 #define SAME(name, left, right) typedef char same_##name[(left) == (right) ? 1 : -1]
 
 SAME(major, ISC_VERSION_MAJOR, 1);
-SAME(minor, ISC_VERSION_MINOR, 3);
-SAME(version, ISC_VERSION, 1003);
+SAME(minor, ISC_VERSION_MINOR, 4);
+SAME(version, ISC_VERSION, 1004);
 
 /* "Numbers a request can answer." */
 SAME(n0, ISC_DONE, 0);
@@ -46,6 +46,7 @@ SAME(owner_code, ISC_OWNER_CODE_MOST, 123 - 92 + 1);
 SAME(header_most, ISC_HEADER_MOST, 32762);
 SAME(header_sectors, ISC_HEADER_SECTORS_MOST, 32);
 SAME(header_whole, ISC_HEADER_DATA + ISC_HEADER_MOST, ISC_HEADER_SECTORS_MOST * ISC_SECTOR);
+SAME(withheld_most, ISC_WITHHELD_MOST, 512);
 SAME(list_entry, ISC_LIST_ENTRY, 64);
 SAME(report_text, ISC_REPORT_TEXT, 192);
 SAME(broken_text, ISC_BROKEN_TEXT, 64);
@@ -111,34 +112,39 @@ SAME(at_count, ISC_AT_COUNT, 4);
 /* The functions' types, declared once more: a compiler refuses them if the header's are others. */
 uint32_t isc_format(uint8_t *, size_t, int32_t, int32_t, const uint8_t *, size_t, const uint8_t *, size_t, uint32_t,
                     const uint8_t *, size_t, const uint8_t *, size_t, const uint8_t *, size_t);
-uint32_t isc_mount(uint8_t *, size_t);
-uint32_t isc_dismount(uint8_t *, size_t);
-uint32_t isc_create_fixed(uint8_t *, size_t, const uint8_t *, size_t, int32_t, int32_t, uint32_t, const uint8_t *,
-                          size_t, uint32_t *);
-uint32_t isc_create_variable(uint8_t *, size_t, const uint8_t *, size_t, int32_t, uint32_t, const uint8_t *, size_t,
-                             uint32_t *);
-uint32_t isc_grow(uint8_t *, size_t, uint32_t, int32_t, const uint8_t *, size_t);
-uint32_t isc_temporary_delete(uint8_t *, size_t, uint8_t *, size_t, uint32_t, const uint8_t *, size_t);
-uint32_t isc_recover(uint8_t *, size_t, uint8_t *, size_t, uint32_t, const uint8_t *, size_t);
-uint32_t isc_actual_delete(uint8_t *, size_t, uint8_t *, size_t, uint32_t, const uint8_t *, size_t);
-uint32_t isc_set_protection(uint8_t *, size_t, uint32_t, uint32_t, const uint8_t *, size_t);
-uint32_t isc_search(const uint8_t *, size_t, const uint8_t *, size_t, uint32_t *, size_t, uint32_t *);
-uint32_t isc_list(const uint8_t *, size_t, uint32_t, uint8_t *, size_t, uint32_t *);
-uint32_t isc_locate(const uint8_t *, size_t, uint32_t, uint32_t, uint32_t *);
-uint32_t isc_space(const uint8_t *, size_t, uint32_t *, uint32_t *);
-uint32_t isc_report(const uint8_t *, size_t, uint8_t *, size_t, uint32_t *);
-uint32_t isc_broken_rule(const uint8_t *, size_t, uint32_t *, uint32_t *, uint32_t *);
-uint32_t isc_broken_text(const uint8_t *, size_t, uint8_t *, size_t, uint32_t *);
-uint32_t isc_read(const uint8_t *, size_t, const uint8_t *, size_t, uint32_t, int32_t, int32_t, uint32_t, uint8_t *,
-                  size_t, uint32_t *);
-uint32_t isc_write(uint8_t *, size_t, uint8_t *, size_t, uint32_t, int32_t, int32_t, uint32_t, const uint8_t *, size_t,
-                   const uint8_t *, size_t, uint32_t *);
-isc_place isc_show_place(const uint8_t *, size_t, const uint8_t *, size_t, uint32_t, uint32_t);
-uint32_t isc_show_number(const uint8_t *, size_t, const uint8_t *, size_t, uint32_t, uint32_t);
-uint32_t isc_place_header(uint8_t *, size_t, uint8_t *, size_t, uint32_t, const uint8_t *, size_t, const uint8_t *,
-                          size_t);
-isc_place isc_header_place(const uint8_t *, size_t, const uint8_t *, size_t, uint32_t);
-uint32_t isc_header_number(const uint8_t *, size_t, const uint8_t *, size_t, uint32_t);
+uint32_t isc_mount(uint8_t *, size_t, const uint32_t *, size_t);
+uint32_t isc_dismount(uint8_t *, size_t, const uint32_t *, size_t);
+uint32_t isc_create_fixed(uint8_t *, size_t, const uint32_t *, size_t, const uint8_t *, size_t, int32_t, int32_t,
+                          uint32_t, const uint8_t *, size_t, uint32_t *);
+uint32_t isc_create_variable(uint8_t *, size_t, const uint32_t *, size_t, const uint8_t *, size_t, int32_t, uint32_t,
+                             const uint8_t *, size_t, uint32_t *);
+uint32_t isc_grow(uint8_t *, size_t, const uint32_t *, size_t, uint32_t, int32_t, const uint8_t *, size_t);
+uint32_t isc_temporary_delete(uint8_t *, size_t, const uint32_t *, size_t, uint8_t *, size_t, uint32_t, const uint8_t *,
+                              size_t);
+uint32_t isc_recover(uint8_t *, size_t, const uint32_t *, size_t, uint8_t *, size_t, uint32_t, const uint8_t *, size_t);
+uint32_t isc_actual_delete(uint8_t *, size_t, const uint32_t *, size_t, uint8_t *, size_t, uint32_t, const uint8_t *,
+                           size_t);
+uint32_t isc_set_protection(uint8_t *, size_t, const uint32_t *, size_t, uint32_t, uint32_t, const uint8_t *, size_t);
+uint32_t isc_search(const uint8_t *, size_t, const uint32_t *, size_t, const uint8_t *, size_t, uint32_t *, size_t,
+                    uint32_t *);
+uint32_t isc_list(const uint8_t *, size_t, const uint32_t *, size_t, uint32_t, uint8_t *, size_t, uint32_t *);
+uint32_t isc_locate(const uint8_t *, size_t, const uint32_t *, size_t, uint32_t, uint32_t, uint32_t *);
+uint32_t isc_space(const uint8_t *, size_t, const uint32_t *, size_t, uint32_t *, uint32_t *);
+uint32_t isc_report(const uint8_t *, size_t, const uint32_t *, size_t, uint8_t *, size_t, uint32_t *);
+uint32_t isc_broken_rule(const uint8_t *, size_t, const uint32_t *, size_t, uint32_t *, uint32_t *, uint32_t *);
+uint32_t isc_broken_text(const uint8_t *, size_t, const uint32_t *, size_t, uint8_t *, size_t, uint32_t *);
+uint32_t isc_read(const uint8_t *, size_t, const uint32_t *, size_t, const uint8_t *, size_t, uint32_t, int32_t,
+                  int32_t, uint32_t, uint8_t *, size_t, uint32_t *);
+uint32_t isc_write(uint8_t *, size_t, const uint32_t *, size_t, uint8_t *, size_t, uint32_t, int32_t, int32_t, uint32_t,
+                   const uint8_t *, size_t, const uint8_t *, size_t, uint32_t *);
+isc_place isc_show_place(const uint8_t *, size_t, const uint32_t *, size_t, const uint8_t *, size_t, uint32_t,
+                         uint32_t);
+uint32_t isc_show_number(const uint8_t *, size_t, const uint32_t *, size_t, const uint8_t *, size_t, uint32_t,
+                         uint32_t);
+uint32_t isc_place_header(uint8_t *, size_t, const uint32_t *, size_t, uint8_t *, size_t, uint32_t, const uint8_t *,
+                          size_t, const uint8_t *, size_t);
+isc_place isc_header_place(const uint8_t *, size_t, const uint32_t *, size_t, const uint8_t *, size_t, uint32_t);
+uint32_t isc_header_number(const uint8_t *, size_t, const uint32_t *, size_t, const uint8_t *, size_t, uint32_t);
 
 /* The inline functions, and the types that the header names. */
 const char *use_text(enum isc_number number);
@@ -147,14 +153,16 @@ const char *use_text(enum isc_number number) { return isc_number_text(number); }
 const char *use_rule(uint32_t rule);
 const char *use_rule(uint32_t rule) { return isc_rule_text(rule); }
 
-isc_part use_show(const uint8_t *books, size_t books_len, const uint8_t *body, size_t body_len);
-isc_part use_show(const uint8_t *books, size_t books_len, const uint8_t *body, size_t body_len) {
-    return isc_show(books, books_len, body, body_len, 1, 0);
+isc_part use_show(const uint8_t *books, size_t books_len, const uint32_t *list, const uint8_t *body, size_t body_len);
+isc_part use_show(const uint8_t *books, size_t books_len, const uint32_t *list, const uint8_t *body, size_t body_len) {
+    return isc_show(books, books_len, list, 0, body, body_len, 1, 0);
 }
 
-isc_part use_show_header(const uint8_t *books, size_t books_len, const uint8_t *body, size_t body_len);
-isc_part use_show_header(const uint8_t *books, size_t books_len, const uint8_t *body, size_t body_len) {
-    return isc_show_header(books, books_len, body, body_len, 1);
+isc_part use_show_header(const uint8_t *books, size_t books_len, const uint32_t *list, const uint8_t *body,
+                         size_t body_len);
+isc_part use_show_header(const uint8_t *books, size_t books_len, const uint32_t *list, const uint8_t *body,
+                         size_t body_len) {
+    return isc_show_header(books, books_len, list, 0, body, body_len, 1);
 }
 
 int32_t use_kinds(enum isc_kind kind, enum isc_protection protection, enum isc_type type, enum isc_cell cell,

@@ -17,6 +17,7 @@ static void test_all(void) {
     test_write();
     test_show();
     test_place();
+    test_withheld();
     test_cards();
 }
 

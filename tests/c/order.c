@@ -7,33 +7,36 @@
 struct scene {
     struct volume v;
     struct request r;
-    int length, mark, limits, rule, full, tables;
+    int length, mark, limits, worn, rule, full, tables;
 };
+
+/* The 7 of the withheld list, "examined between 3 and 4". */
+enum { WORN = 107 };
 
 /* The table of numbers, in its order, as far as a function can answer them; the 7 of a short text comes first. */
 static const int numbers[CALLS][16] = {
     {1, 3, 7},
-    {1, 2, 3, 4, 6},
-    {1, 2, 3, 4, 5},
-    {1, 2, 3, 4, 5, 7, 12, 13},
-    {1, 2, 3, 4, 5, 7, 12, 13},
-    {1, 2, 3, 4, 5, 7, 8, 9, 10, 11, 12, 13},
-    {1, 2, 3, 4, 5, 7, 15, 8, 9, 10},
-    {1, 2, 3, 4, 5, 7, 15, 8, 9},
-    {1, 2, 3, 4, 5, 7, 15, 8, 9},
-    {1, 2, 3, 4, 5, 7, 8, 9},
-    {1, 2, 3, 4, 5, 7},
-    {1, 2, 3, 4, 5, 7},
-    {1, 2, 3, 4, 5, 8, 9, 14},
-    {1, 2, 3, 4, 5},
-    {7, 1, 2, 3, 4},
-    {1, 2, 3},
-    {7, 1, 2, 3},
-    {1, 2, 3, 4, 5, 7, 15, 8, 9, 10, 14},
-    {1, 2, 3, 4, 5, 7, 15, 8, 9, 10, 14, 12, 13},
-    {1, 2, 3, 4, 5, 15, 8, 9, 10, 14},
-    {1, 2, 3, 4, 5, 7, 15, 8, 9, 10, 12},
-    {1, 2, 3, 4, 5, 15, 8, 9, 10, 14},
+    {1, 2, 3, WORN, 4, 6},
+    {1, 2, 3, WORN, 4, 5},
+    {1, 2, 3, WORN, 4, 5, 7, 12, 13},
+    {1, 2, 3, WORN, 4, 5, 7, 12, 13},
+    {1, 2, 3, WORN, 4, 5, 7, 8, 9, 10, 11, 12, 13},
+    {1, 2, 3, WORN, 4, 5, 7, 15, 8, 9, 10},
+    {1, 2, 3, WORN, 4, 5, 7, 15, 8, 9},
+    {1, 2, 3, WORN, 4, 5, 7, 15, 8, 9},
+    {1, 2, 3, WORN, 4, 5, 7, 8, 9},
+    {1, 2, 3, WORN, 4, 5, 7},
+    {1, 2, 3, WORN, 4, 5, 7},
+    {1, 2, 3, WORN, 4, 5, 8, 9, 14},
+    {1, 2, 3, WORN, 4, 5},
+    {7, 1, 2, 3, WORN, 4},
+    {1, 2, 3, WORN},
+    {7, 1, 2, 3, WORN},
+    {1, 2, 3, WORN, 4, 5, 7, 15, 8, 9, 10, 14},
+    {1, 2, 3, WORN, 4, 5, 7, 15, 8, 9, 10, 14, 12, 13},
+    {1, 2, 3, WORN, 4, 5, 15, 8, 9, 10, 14},
+    {1, 2, 3, WORN, 4, 5, 7, 15, 8, 9, 10, 12},
+    {1, 2, 3, WORN, 4, 5, 15, 8, 9, 10, 14},
 };
 
 static void spoil_argument(struct request *r) {
@@ -64,6 +67,7 @@ static void spoil(struct scene *s, int number) {
     case 1: s->length = 1; break;
     case 2: s->mark = 1; break;
     case 3: s->limits = 1; break;
+    case WORN: s->worn = 1; break;
     case 4: s->rule = 1; break;
     case 5: s->v.flag = 0; break;
     case 6: s->v.flag = 1; break;
@@ -117,6 +121,7 @@ static struct scene begin(enum call call) {
 }
 
 static void refuse(struct scene *s, int number) {
+    static const uint32_t sector_0[] = {0}; /* of zone 1, which is of no type from C to H */
     size_t body = s->r.body.len;
     crowd(s);
     restand(&s->r, &s->v);
@@ -127,11 +132,15 @@ static void refuse(struct scene *s, int number) {
         put_number(now_books + 130, 4, 2);
         s->r.zones = 2;
     }
+    if (s->worn) {
+        s->r.withheld = sector_0;
+        s->r.withheld_len = 1;
+    }
     if (s->rule)
         now_books[1024 + 7]++;
     if (s->length)
         s->r.books.len++;
-    REFUSED(&s->r, (uint32_t)number);
+    REFUSED(&s->r, number == WORN ? 7 : (uint32_t)number);
 }
 
 static void test_numbers(enum call call) {

@@ -82,6 +82,8 @@ void run(struct file *f, uint32_t start, uint32_t count) {
     f->runs_count++;
 }
 
+void withhold(struct volume *v, uint32_t start) { v->withheld[v->withheld_count++] = start; }
+
 /* Z = 3, N = 4. File 1 is variable, file 2 fixed; zone 2 is of type C and they hold its sectors from 1024 on in turn,
    ten each, so that file 1 needs a child table for its next. Tables 4 and 3 are free, in this order; with `child`
    file 1 has the sector 1044 too, and table 4 is its child. */
@@ -183,10 +185,13 @@ static void put_sector_1(const struct volume *v, uint8_t *at) {
     put_number(at + 30, 2, v->flag);
 }
 
-/* R3: "the free count is the number of clear blocks"; "zone z holds sectors 1024(z-1) to 1024z-1", "types 3 to 8 are C
-   to H, with blocks of 1, 4, 16, 64, 256, 1024 sectors". "Zone type 2 (B): free field = free sectors." */
+/* "Types 3 to 8 are C to H, with blocks of 1, 4, 16, 64, 256, 1024 sectors." "Zone type 2 (B): free field = free
+   sectors." */
+static uint32_t block_of(uint32_t type) { return type == TYPE_B ? 1 : 1U << 2 * (type - TYPE_C); }
+
+/* R3: "the free count is the number of clear blocks"; "zone z holds sectors 1024(z-1) to 1024z-1". */
 static uint32_t clear_blocks(const uint8_t *bits, uint32_t z, uint32_t type) {
-    uint32_t block = type == TYPE_B ? 1 : 1U << 2 * (type - TYPE_C), start, i, sum = 0;
+    uint32_t block = block_of(type), start, i, sum = 0;
     for (start = 1024 * (z - 1); start < 1024 * z; start += block) {
         int clear = 1;
         for (i = start; i < start + block; i++)
@@ -220,6 +225,7 @@ static void set_bits(uint8_t *at, uint32_t start, uint32_t count) {
         at[start / 8] |= (uint8_t)(0x80 >> start % 8);
 }
 
+/* R7: "set bits are the owned sectors and the withheld ones", and those of zones 1 and Z. */
 static void put_bits(const struct volume *v, uint8_t *at) {
     uint32_t i, j;
     set_bits(at, 0, 1024);
@@ -229,6 +235,8 @@ static void put_bits(const struct volume *v, uint8_t *at) {
             set_bits(at, v->files[i].runs[j].start, v->files[i].runs[j].count);
         set_bits(at, v->files[i].header.start, v->files[i].header.count);
     }
+    for (i = 0; i < v->withheld_count; i++)
+        set_bits(at, v->withheld[i], block_of(v->type[v->withheld[i] / 1024 + 1]));
 }
 
 static void put_run(uint8_t *at, struct run r) {

@@ -330,6 +330,178 @@ headers_refused() {
     verdict $? "it says what is needed, and changes no byte of the image"
 }
 
+# --- worn sectors
+
+# set_both PLACE VALUE: a byte of the tables of worn.img, in zone 1 and in the backup, zone 4.
+set_both() {
+    set_byte "$img" "$1" "$2"
+    set_byte "$img" $((3 * MIB + $1)) "$2"
+}
+
+# Z is 4 and N is 8: the zone table stands in sector 2, the sector table in 3. Zone 2 becomes one of type D with X, whose
+# two blocks begin at 1024; then its fourth block, 1036 to 1039, is withheld by hand: the low half of byte 129 of the
+# sector table is set, and 253 blocks are free instead of 254.
+worn_image() {
+    img=$T/worn.img
+    list=$T/worn.list
+    printf '# a card with a worn spot\n\n\t1036  # in zone 2, 12 sectors behind its start\n#1040\n' >"$list"
+    bytes 5000 1 >"$T/in"
+    run format "$img" --zones 4 --indexes 8 --label WORN --date $DATE
+    run put "$img" "$T/in" --name X --types D --date $DATE
+    [ "$(byte_at "$img" $((2 * 1024 + 9)))" = 254 ] && [ "$(byte_at "$img" $((3 * 1024 + 129)))" = 0 ]
+    verdict $? "a card without worn spots"
+    cp "$img" "$T/unworn.img"
+    set_both $((2 * 1024 + 9)) 253
+    set_both $((3 * 1024 + 129)) 15
+}
+
+worn_checks() {
+    refused 4 "a card with a withheld block, without its list" check "$img"
+    grep -q "rule R7 is broken, first at sector 1036: " "$T/err" && grep -q "list is needed: --withheld LIST" "$T/err"
+    verdict $? "check names the sector and the list"
+    works "check with its list" check "$img" --withheld "$list"
+    works "the list before the command" --withheld "$list" check "$img"
+    works "the list as one word" check --withheld="$list" "$img"
+    works "and that before the command" --withheld="$list" check "$img"
+    printf '1036' >"$T/short.list"
+    works "a list that ends without a line feed" check "$img" --withheld "$T/short.list"
+    printf '1036\r\n\r\n' >"$T/short.list"
+    works "a list with carriage returns" check "$img" --withheld "$T/short.list"
+    : >"$T/empty.list"
+    works "an empty list for a card without worn spots" check "$T/unworn.img" --withheld "$T/empty.list"
+    refused 4 "an empty list for this one" check "$img" --withheld "$T/empty.list"
+    refused 4 "its list for a card without it" check "$T/unworn.img" --withheld "$list"
+    grep -q "rule R7 is broken, first at sector 1036: " "$T/err" && ! grep -q "list is needed" "$T/err"
+    verdict $? "check names the sector, and no list"
+    printf '1028 1036' >"$T/owned.list"
+    refused 4 "a list with a block that a file has" check "$img" --withheld "$T/owned.list"
+    grep -q "rule R7 is broken, first at sector 1028: " "$T/err"
+    verdict $? "check names its sector"
+}
+
+# refused_list TEXT NAME NUMBERS: a list of these numbers is refused by 7, and a line has this text.
+refused_list() {
+    text=$1 name=$2
+    shift 2
+    printf '%s\n' "$@" >"$T/bad.list"
+    refused 7 "a list $name" check "$img" --withheld "$T/bad.list"
+    head -1 "$T/err" | grep -q "the list of withheld blocks" && tail -n 1 "$T/err" | grep -qF -e "$text"
+    verdict $? "in words: $text"
+}
+
+worn_lists() {
+    refused_list "sector 1036 comes after 1040: the list has to ascend" "that does not ascend" 1040 1036
+    refused_list "sector 1036 comes after 1036: the list has to ascend" "with a block twice" 1036 1036
+    refused_list "sector 1037 starts no block: those of zone 2, of type D, have 4 sectors" "within a block" 1037
+    refused_list "sector 2048 lies in zone 3, which is of no type from C to H" "in an open zone" 1036 2048
+    refused_list "sector 0 lies in zone 1" "in zone 1" 0
+    refused_list "sector 4095 lies in zone 4" "in the backup" 4095
+    refused_list "sector 4096 is past the volume's end" "past the volume" 1036 4096
+    refused_list "sector 4294967295 is past the volume's end" "with the largest number" 4294967295
+    # shellcheck disable=SC2046
+    refused_list "it has more than 512 blocks" "of 513 blocks" $(seq 1024 4 3072)
+    cp "$img" "$T/b.img"
+    set_byte "$T/b.img" $((1024 + 7)) 9
+    refused 7 "a list before a broken rule" check "$T/b.img" --withheld "$T/bad.list"
+    set_byte "$T/b.img" 0 0
+    refused 2 "no mark before a list" check "$T/b.img" --withheld "$T/bad.list"
+    cp "$img" "$T/before.img"
+    refused 7 "a put with a list that is not allowed" put "$img" "$T/in" --types D --withheld "$T/bad.list"
+    refused 7 "a repair with it" repair "$img" --withheld "$T/bad.list"
+    refused 7 "a repair from the backup with it" repair "$img" --from-backup --withheld "$T/bad.list"
+    cmp -s "$img" "$T/before.img"
+    verdict $? "they change no byte of the image"
+}
+
+# bad_text LINE NAME TEXT: a list with this text is wrong usage, and the line is named.
+bad_text() {
+    printf %b "$3" >"$T/bad.list"
+    misused "a list $2" check "$img" --withheld "$T/bad.list"
+    grep -qF -e "bad.list, line $1: " "$T/err"
+    verdict $? "line $1 is named"
+}
+
+worn_texts() {
+    bad_text 1 "with a word" 'abc\n'
+    bad_text 3 "with a number that goes on" '# list\n1036\n1040x\n'
+    bad_text 2 "with a sign" '1036\n-1\n'
+    bad_text 2 "with commas" '\n1036,1040\n'
+    bad_text 1 "of nulls" '1036\0\n'
+    bad_text 2 "with a number beyond any" '1036\n4294967296\n'
+    bad_text 1 "with a number far beyond any" '99999999999999999999999999\n'
+    misused "the image as a list" check "$img" --withheld "$img"
+    fails "No such file" "a list that is not there" check "$img" --withheld "$T/nowhere"
+    fails "Is a directory" "a directory as a list" check "$img" --withheld "$T"
+    misused "--withheld without a list" check "$img" --withheld
+    misused "--withheld alone" --withheld "$list"
+    misused "--withheld before and after" --withheld "$list" check "$img" --withheld "$list"
+    misused "format with a list" format "$T/u.img" --zones 3 --indexes 8 --withheld "$list"
+    grep -qF -e "--withheld is not for format" "$T/err" && [ ! -e "$T/u.img" ]
+    verdict $? "it says why, and makes no image"
+}
+
+# Y of 20,000 bytes has five blocks of four sectors: 1032, and from 1040 on.
+worn_files() {
+    bytes 20000 2 >"$T/y"
+    works "put beside a withheld block" put "$img" "$T/y" --name Y --types D --date $DATE --withheld "$list"
+    $CARD get "$img" Y --withheld "$list" | cmp -s - "$T/y" && $CARD get "$img" X --withheld "$list" | cmp -s - "$T/in"
+    verdict $? "it and the other file come out the same"
+    works "map with a list" map "$img" --svg "$T/pic.svg" --withheld "$list"
+    grep -q '^   2  D      7   248         1  x#\.*$' "$T/out" && grep -q '^   3  \.      -     -         -  \.*$' "$T/out" &&
+        head -1 "$T/out" | grep -q 'free  withheld .* x withheld, ' && tail -n 1 "$T/out" | grep -qx 'withheld blocks: 1, sectors: 4'
+    verdict $? "it counts the withheld block apart, marks it, and explains the mark"
+    grep -q '<title>2 Y: sectors 1032 to 1035</title>' "$T/pic.svg" && grep -q '<title>2 Y: sectors 1040 to 1055</title>' "$T/pic.svg"
+    verdict $? "the file lies around the withheld block"
+    grep -q 'fill="black"><title>withheld: sectors 1036 to 1039</title>' "$T/pic.svg" &&
+        grep -q '>withheld blocks: 1, sectors: 4</text>' "$T/pic.svg" && grep -q 'black: withheld<' "$T/pic.svg"
+    verdict $? "the picture has it, in a colour of its own, and a legend"
+    run map "$T/unworn.img"
+    ! grep -q withheld "$T/out"
+    verdict $? "without a list map says nothing of withheld blocks"
+    run info "$img" --withheld "$list"
+    prints "space in use       2080 sectors" "info counts them as in use"
+    prints "space withheld     4 sectors, 4096 bytes" "and apart"
+    # 248 blocks are free, and the open zone 3 has 256.
+    bytes $((4096 * 504 + 1)) 3 >"$T/big"
+    refused 12 "put of one block more than are free" put "$img" "$T/big" --types D --withheld "$list"
+}
+
+# Every command but format: 4 without the list, done with it. At the end no file is left, and zone 2 keeps its type.
+worn_commands() {
+    for words in info "ls --deleted" map "get 1 $T/x" "put $T/in --types D" "header:put 1 $T/in" "header:get 1 $T/x" \
+        "protect 1 --read" "protect 1" "rm 1" "recover 1" "rm 1" "purge 1" "rm 2" "purge 2" "rm 3" "purge 3" check; do
+        # shellcheck disable=SC2086
+        set -- $words
+        command=$(echo "$1" | tr : ' ')
+        shift
+        cp "$img" "$T/before.img"
+        # shellcheck disable=SC2086
+        refused 4 "$command without the list" $command "$img" "$@"
+        cmp -s "$img" "$T/before.img"
+        verdict $? "it changes no byte of the image"
+        # shellcheck disable=SC2086
+        works "$command with the list" $command "$img" "$@" --withheld "$list"
+    done
+    run map "$img" --withheld "$list"
+    grep -q '^   2  D      0   255         1  x\.*$' "$T/out" && grep -q '^   3  \.      -     -         -  \.*$' "$T/out"
+    verdict $? "without a file the zone of a withheld block keeps its type, and another zone is open"
+}
+
+worn_repairs() {
+    cp "$img" "$T/w.img"
+    set_byte "$T/w.img" 0 0
+    refused 2 "repair without the list" repair "$T/w.img"
+    grep -qF "neither zone 1 nor the backup (4)" "$T/err"
+    verdict $? "it takes neither copy"
+    works "repair with the list" repair "$T/w.img" --withheld "$list"
+    cmp -s "$T/w.img" "$img"
+    verdict $? "the card is as it was"
+    set_byte "$T/w.img" $((1024 + 31)) 1
+    works "repair of a volume left mounted, with the list" repair "$T/w.img" --withheld "$list"
+    cmp -s "$T/w.img" "$img"
+    verdict $? "it is dismounted"
+}
+
 # --- names and patterns
 
 names() {
@@ -478,13 +650,13 @@ broken_images() {
     fails "the backup is not equal" "a backup that is not equal" put "$T/b.img" "$T/in" --types C
 }
 
-# breaks PLACE VALUE TEXT NAME: zone 1 with this byte is refused by 4, and check ends with this text and the rule's words;
-# no other line names a rule.
+# breaks PLACE VALUE TEXT NAME: zone 1 with this byte is refused by 4, and check says this text and the rule's words; no
+# other line names a rule.
 breaks() {
     cp "$img" "$T/b.img"
     set_byte "$T/b.img" "$1" "$2"
     refused 4 "$4" check "$T/b.img"
-    tail -n 1 "$T/err" | grep -q "^card: check: $3: [a-z]" && [ "$(grep -c 'is broken, \|is broken: ' "$T/err")" -eq 1 ]
+    grep -q "^card: check: $3: [a-z]" "$T/err" && [ "$(grep -c 'is broken, \|is broken: ' "$T/err")" -eq 1 ]
     verdict $? "and check says: $3"
 }
 
@@ -579,6 +751,7 @@ usage() {
     verdict $? "its hint has both words"
     works "--help" --help
     prints "card repair IMAGE" "--help names the commands"
+    prints "--withheld LIST" "--help names the list of withheld blocks"
     for command in format info ls put get "header put" "header get" rm recover purge protect check map repair; do
         run $command --help
         [ $status -eq 0 ] && grep -q "^card $command IMAGE" "$T/out" && [ ! -s "$T/err" ]
@@ -767,13 +940,15 @@ files_stand() {
 }
 
 # Each judge looks at w.img after a cut, repairs it where check asks for it, and says whether it is the old state or the
-# new one.
+# new one. $listed is the option with the list, if w.img has withheld blocks.
+listed=
+# shellcheck disable=SC2086
 repaired() {
-    run check "$T/w.img"
+    run check "$T/w.img" $listed
     [ $status -eq 0 ] && return 0
-    run repair "$T/w.img"
+    run repair "$T/w.img" $listed
     [ $status -eq 0 ] || return 1
-    run check "$T/w.img"
+    run check "$T/w.img" $listed
     [ $status -eq 0 ]
 }
 judge_change() {
@@ -817,6 +992,10 @@ judge_header() {
         sectors "$T/w.img" 2048 1024 | cmp -s - "$T/run" || return 1
     fi
     files_stand && $CARD header get "$T/w.img" A 2>"$T/err" | cmp -s - "$T/h.a"
+}
+judge_worn() {
+    repaired || return 1
+    same_zone_1 "$T/was.img" || same_zone_1 "$T/new.img"
 }
 judge_headed() {
     repaired && cmp -s "$T/w.img" "$T/headed.img"
@@ -894,6 +1073,18 @@ cut_headers() {
     cp "$T/new.img" "$T/was.img"
     cuts judge_header "recover, with a header" recover "$T/w.img" C $later
     cuts judge_header "purge, with a header" purge "$T/w.img" C $later
+}
+
+# worn.img has no file, and one withheld block.
+cut_worn() {
+    listed="--withheld $list"
+    cp "$T/worn.img" "$T/was.img"
+    # shellcheck disable=SC2086
+    for words in "put $T/w.img $T/y --name Y --types D" "rm $T/w.img Y" "purge $T/w.img Y"; do
+        cuts judge_worn "${words%% *}, with a withheld block" $words $listed $later
+        cp "$T/new.img" "$T/was.img"
+    done
+    listed=
 }
 
 # The id in C's header has been changed by rm, the backup has been written, zone 1 not yet.
@@ -986,6 +1177,13 @@ a_day_goes_on
 headers
 headers_placed
 headers_refused
+worn_image
+worn_checks
+worn_lists
+worn_texts
+worn_files
+worn_commands
+worn_repairs
 names
 refusals
 protection
@@ -1006,6 +1204,7 @@ repairs
 cut_changes
 headed_image
 cut_headers
+cut_worn
 cut_header_repairs
 cut_repairs
 full_disks

@@ -11,11 +11,14 @@ use Rattle.tables.specs.Kinds.{zoneOf}
 use Rattle.tables.specs.Blocks.{blockOf}
 use Rattle.tables.specs.Places.{Layout}
 use Rattle.tables.specs.Sector1.{firstFreeOf}
+use Rattle.tables.specs.Same.{Ground}
 use Rattle.tables.specs.Views.{View, viewOf, cov}
+use Rattle.tables.specs.Withheld.{KeepsTypes}
 use Rattle.tables.specs.Rules.R6.{Run}
 use Rattle.tables.proofs.BlockLaws.{data-block, block-in}
 use Rattle.tables.proofs.IndexLaws.{length-table}
 use Rattle.tables.proofs.PointerLaws.{cov-join}
+use Rattle.tables.proofs.WithheldLaws.{keeps-same, keeps-trans}
 use Rattle.allocation.specs.declared.choice.Found.{Found}
 use Rattle.allocation.specs.declared.tail.Tail.{Tail}
 use Rattle.allocation.specs.declared.tail.Pushed.the-variants.{Joined, Beside, Further}
@@ -32,7 +35,7 @@ use Rattle.allocation.proofs.TurnLaws.{turn-none, turn-step}
 use Rattle.allocation.proofs.PlanLaws.{push-cases, stock-free, stock-taken}
 use Rattle.allocation.proofs.StockLaws.{taken-R2, taken-R3}
 use Rattle.allocation.proofs.TakenLaws.{length-putBlock, block-files, block-sector0, block-tails}
-use Rattle.allocation.proofs.TakenHeld.{new-run, taken-held, taken-ends, taken-types, files-sectors}
+use Rattle.allocation.proofs.TakenHeld.{new-run, taken-keeps, taken-held, taken-ends, taken-types, files-sectors}
 use Rattle.allocation.proofs.StepLaws.{Calm, pointer-still, child-popped}
 use Rattle.allocation.proofs.ChangeLaws.{Longer}
 use Rattle.allocation.proofs.EndsLaws.{end-some, last-start, last-count}
@@ -93,6 +96,9 @@ module _ (p : Places) (f t : ℕ) (ts : List ℕ) (g : Growth) (ready : Ready p 
   block-held : Held v f (λ x. extra x + cov s n x)
   block-held = taken-held can took files bits held (taken-R2 _ v t k can took (held .r2)) (taken-R3 _ v t k can took (held .r3))
 
+  block-keeps : KeepsTypes extra (viewOf p (g .books)) v
+  block-keeps = taken-keeps can took files bits held
+
   block-ends : Ends v f c
   block-ends = taken-ends files ends
 
@@ -121,14 +127,15 @@ module _ (p : Places) (f t : ℕ) (ts : List ℕ) (g : Growth) (ready : Ready p 
   sized j = length-table p b j block-layout
 
   -- and then under one
-  block-longer : (a : ℕ) (b' : List ℕ) (c' : Cursor) → a ≡ s → Longer v (viewOf p b') f a n extra c' → Quiet p b b' → Lengthened extra p f g (record { books = b'; cursor = c' }) (t ∷ [])
+  block-longer : (a : ℕ) (b' : List ℕ) (c' : Cursor) → a ≡ s → Longer v (viewOf p b') f a n extra c' → Ground v (viewOf p b') → Quiet p b b' → Lengthened extra p f g (record { books = b'; cursor = c' }) (t ∷ [])
   unfolding sectorsIn AllOf
-  block-longer a b' c' e o quiet = record {
+  block-longer a b' c' e o ground quiet = record {
     held = o .held;
     ends = o .ends;
     sectors = omega (arith, o .sectors, files-sectors files f);
     front = λ j lj. o .front j lj ∙ ap (λ (x : List ℕ). getD x j 0) (files .table f (ends .parent .low) (ends .parent .high));
     types = λ u all ty. o .types u (taken-types can took files bits held f u ty) (λ x lo hi. block-type x (omega arith) (omega arith) ∙ all .0);
+    keeps = keeps-trans extra (viewOf p (g .books)) v (viewOf p b') refl block-keeps (keeps-same extra v (viewOf p b') (ground .zone));
     quiet = quiet-trans block-quiet quiet;
   }
 
@@ -139,6 +146,7 @@ module _ (p : Places) (f t : ℕ) (ts : List ℕ) (g : Growth) (ready : Ready p 
       (block-longer _ _ _ e
       (joined-held v _ f c (ready .layout .few) sized block-ends _ extra block-held (l .tables) n some (here-written p f b c (Joined (longer l n)) ts h)
       (run-join v (l .last .start .0) (l .last .count) n old (rw e block-run) few) (λ x. rw e (omega arith)))
+      (here-written p f b c (Joined (longer l n)) ts h .ground)
       (calm-quiet (pointer-still p b (c .table .0) (placeOf l) (longer l n .last) block-layout (ready .low) (ready .high) (omega arith) .calm)))
     where
       some : 1 ≤ l .slot
@@ -155,6 +163,7 @@ module _ (p : Places) (f t : ℕ) (ts : List ℕ) (g : Growth) (ready : Ready p 
       rw (pointed-beside p f b c (beside l s n), here-is p f b c (beside l s n))
       (block-longer _ _ _ refl
       (beside-held v _ f c (ready .layout .few) sized block-ends _ extra block-held (l .tables) (beside l s n .last) (here-written p f b c (Beside (beside l s n)) ts h) room block-run (λ x. omega arith))
+      (here-written p f b c (Beside (beside l s n)) ts h .ground)
       (calm-quiet (pointer-still p b (c .table .0) (placeOf (beside l s n)) (beside l s n .last) block-layout (ready .low) (ready .high) (omega arith) .calm)))
 
   -- in a further child's first one
@@ -164,6 +173,7 @@ module _ (p : Places) (f t : ℕ) (ts : List ℕ) (g : Growth) (ready : Ready p 
       (block-longer _ _ _ refl
       (extended-held v _ f c (ready .layout .few) sized block-ends _ extra block-held (l .tables + 1) (further l s n .last)
       (further-extended p f b c (further l s n) ts h) room (λ z. omega (arith, head .low)) block-run (λ x. omega arith))
+      (further-extended p f b c (further l s n) ts h .ground)
       (quiet-trans (calm-quiet new)
       (calm-quiet (pointer-still p (putChild p b f (c .table .0)) (firstFreeOf b) 22 (further l s n .last) (rw (new .len) block-layout) (head .low) (head .high) (omega arith) .calm))))
     where
@@ -192,6 +202,7 @@ lengthened-none p f g held ends = rw (turn-none (addBlock p f) g) (record {
   sectors = omega arith;
   front = λ o l. refl;
   types = λ t all ty. ty;
+  keeps = λ s l lo some. refl;
   quiet = record { len = refl; low = λ j l. refl; tails = λ s q. q };
 })
 
@@ -204,6 +215,7 @@ lengthened-more p f t ts g one more = rw (turn-step (addBlock p f) t ts g) (reco
   sectors = omega (arith, one .sectors, more .sectors);
   front = λ o l. more .front o l ∙ one .front o l;
   types = λ u all ty. more .types u (all .1) (one .types u (all .0, tt) ty);
+  keeps = λ s l lo some. more .keeps s l lo some ∙ one .keeps s l lo some;
   quiet = quiet-trans (one .quiet) (more .quiet);
 })
 

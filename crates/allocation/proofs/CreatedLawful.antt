@@ -12,8 +12,10 @@ use Rattle.tables.specs.Sector1.{firstFreeOf}
 use Rattle.tables.specs.Views.{View, viewOf}
 use Rattle.tables.specs.Rules.R8.{fileSectors, FileLaw}
 use Rattle.tables.specs.Lawful.{LawfulWith}
+use Rattle.tables.specs.Withheld.{KeepsTypes}
 use Rattle.tables.proofs.BlockLaws.{data-block}
 use Rattle.tables.proofs.IndexLaws.{length-table}
+use Rattle.tables.proofs.WithheldLaws.{keeps-same, keeps-trans}
 use Rattle.allocation.specs.Choice.{inOrder, inTurn}
 use Rattle.allocation.specs.NextPointer.{noPointer}
 use Rattle.allocation.specs.NewTables.{New, putNewParent}
@@ -125,6 +127,9 @@ module _ (p : Places) (b : List ℕ) (n : New) (counts : List ℕ) {extra : ℕ 
     lawful : LawfulWith extra p (g .books)
     lawful = held-rules p (g .books) f (quiet-R1 p b (g .books) quiet (provided .lawful .r1)) (h .held) (λ b. used) law
 
+    types : KeepsTypes extra (viewOf p b) v
+    types = keeps-trans extra (viewOf p b) (viewOf p (started p b n .books)) v refl (keeps-same extra (viewOf p b) (viewOf p (started p b n .books)) (start-made .ground .zone)) (h .keeps)
+
   module _ (ready : Ready p f (started p b n) (inOrder counts)) where
     lengthened : Lengthened extra p f (started p b n) (inTurn (addBlock p f) (inOrder counts) (started p b n)) (inOrder counts)
     lengthened = adds-held p f (inOrder counts) (started p b n) ready (start-begun .held) start-ends
@@ -138,3 +143,9 @@ pub created-quiet : (p : Places) (b : List ℕ) (n : New) (counts : List ℕ) {e
     → Ready p (firstFreeOf b) (started p b n) (inOrder counts) → Quiet p b (created p b n counts)
 unfolding created
 created-quiet p b n counts provided new ready = quiet p b n counts provided new _ (lengthened p b n counts provided new ready)
+
+-- zones with sectors that are set besides keep their types
+pub created-types : (p : Places) (b : List ℕ) (n : New) (counts : List ℕ) {extra : ℕ → ℕ} → ProvidedWith extra p b noPointer counts → NewLawful n counts
+    → Ready p (firstFreeOf b) (started p b n) (inOrder counts) → KeepsTypes extra (viewOf p b) (viewOf p (created p b n counts))
+unfolding created
+created-types p b n counts provided new ready = types p b n counts provided new _ (lengthened p b n counts provided new ready)

@@ -22,9 +22,11 @@ use Rattle.tables.proofs.FrameLaws.{header-start-kept, header-count-kept}
 use Rattle.tables.specs.Views.{View, viewOf, Parent}
 use Rattle.tables.specs.Rules.R8.{fileSectors, fileType, InType, File}
 use Rattle.tables.specs.Lawful.{LawfulWith}
+use Rattle.tables.specs.Withheld.{KeepsTypes}
 use Rattle.tables.proofs.BlockLaws.{data-block}
 use Rattle.tables.proofs.ChoiceLaws.{ceil-enough}
 use Rattle.tables.proofs.IndexLaws.{length-table}
+use Rattle.tables.proofs.WithheldLaws.{keeps-same, keeps-trans}
 use Rattle.allocation.specs.Last.{lastTable, cursorOf}
 use Rattle.allocation.specs.Held.{Held, Ends}
 use Rattle.allocation.specs.Steps.{SameCounts}
@@ -175,6 +177,9 @@ module _ (p : Places) (b : List ℕ) (f : ℕ) (counts : List ℕ) (long : ℕ) 
   quiet : Quiet p b c
   quiet = quiet-trans (h .quiet) (length-stamped p a f long date lay-a (parent .low) (parent .high) six .quiet)
 
+  types : KeepsTypes extra (viewOf p b) (viewOf p c)
+  types = keeps-trans extra (viewOf p b) (viewOf p a) (viewOf p c) refl (h .keeps) (keeps-same extra (viewOf p a) (viewOf p c) (resized .restated .ground .zone))
+
   now-parent : Parent (viewOf p c) f
   now-parent = restated-parent (viewOf p a) (viewOf p c) f (resized .restated) (h .ends .parent)
 
@@ -268,3 +273,10 @@ grown-lawful p b f counts long date has parent variable all valid least most rea
 pub grown-quiet : (p : Places) (b : List ℕ) (f : ℕ) (counts : List ℕ) (long : ℕ) (date : List ℕ) {extra : ℕ → ℕ} → ProvidedWith extra p b (cursorOf p b f .tail) counts → Parent (viewOf p b) f → Date date
     → Ready p f (record { books = b; cursor = cursorOf p b f }) (inOrder counts) → Quiet p b (grown p b f counts long date)
 grown-quiet p b f counts long date has parent valid ready = grown-calm p b f counts has parent long date (valid .long)
+
+-- zones with sectors that are set besides keep their types
+pub grown-types : (p : Places) (b : List ℕ) (f : ℕ) (counts : List ℕ) (long : ℕ) (date : List ℕ) {extra : ℕ → ℕ} → ProvidedWith extra p b (cursorOf p b f .tail) counts → Parent (viewOf p b) f
+    → length date ≡ 6 → KeepsTypes extra (viewOf p b) (viewOf p (grown p b f counts long date))
+unfolding grown
+grown-types p b f counts long date has parent six =
+    types p b f counts long date (has .layout) (has .lawful) parent six _ (grown-lengthened p b f counts has parent)

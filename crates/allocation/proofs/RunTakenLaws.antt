@@ -10,19 +10,21 @@ use native.Mathlib.Omega.{arith}
 use lib.ListN.{getD, length}
 use Rattle.field.specs.Sum.{sumTo}
 use Rattle.field.proofs.BitLaws.{bitAt-lt}
-use Rattle.field.proofs.Sums.{sum-same, sum-zero, sum-one, sum-cut, sum-add, sum-part, sum-le}
+use Rattle.field.proofs.Sums.{sum-same, sum-one, sum-add, sum-part, sum-le}
 use Rattle.tables.specs.declared.places.Places.{Places}
 use Rattle.tables.specs.declared.zone.ZoneEntry.{ZoneEntry}
 use Rattle.tables.specs.Kinds.{zoneOf, firstOf}
 use Rattle.tables.specs.Blocks.{ZoneType, headerType}
 use Rattle.tables.specs.Places.{Layout}
 use Rattle.tables.specs.Views.{View, viewOf, cov}
+use Rattle.tables.specs.Withheld.{KeepsTypes}
 use Rattle.tables.specs.Rules.R2.{R2, ZoneBits}
 use Rattle.tables.specs.Rules.R3.{R3, Blocks}
 use Rattle.tables.specs.Rules.R6.{HeaderRun}
 use Rattle.tables.proofs.BlockLaws.{header-block}
 use Rattle.tables.proofs.PointerLaws.{cov-in, cov-before, cov-after}
 use Rattle.tables.proofs.RoomLaws.{open-clear}
+use Rattle.tables.proofs.TotalLaws.{run-sum}
 use Rattle.allocation.specs.declared.choice.Found.{Found}
 use Rattle.allocation.specs.Headers.{headerPlace, runStart, putRun, HeaderRoom, BegunPlace, OpenPlace}
 use Rattle.allocation.specs.Held.{Held}
@@ -31,19 +33,13 @@ use Rattle.allocation.specs.Steps.{Filled, SameFiles}
 use Rattle.allocation.proofs.FilledLaws.{length-filled, filled-sector0, filled-files, filled-quiet, filled-view}
 use Rattle.allocation.proofs.HeaderLaws.{place-cases, room-place}
 use Rattle.allocation.proofs.OneZoneLaws.{cov-away, one-R2, one-R3}
-use Rattle.allocation.proofs.TakenHeld.{filled-held}
+use Rattle.allocation.proofs.TakenHeld.{filled-keeps, filled-held}
 
 -- ---- the clear sectors of a zone, which is how a B zone's blocks are counted
 
 -- the n sectors from the k-th of a zone on are n of its sectors
 pub cov-sum : (from k n : ℕ) → k + n ≤ 1024 → sumTo 1024 (λ j. cov (from + k) n (from + j)) ≡ n
-cov-sum from k n l =
-    let e : k + (n + (1024 - (k + n))) ≡ 1024 = omega arith in
-    let before = sum-zero k (λ j. cov (from + k) n (from + j)) (λ j lj. cov-before (from + k) n (from + j) (omega arith)) in
-    let own = sum-one n (λ j. cov (from + k) n (from + (k + j))) (λ j lj. cov-in (from + k) n (from + (k + j)) (omega arith) (omega arith)) in
-    let after = sum-zero (1024 - (k + n)) (λ j. cov (from + k) n (from + (k + (n + j)))) (λ j lj. cov-after (from + k) n (from + (k + (n + j))) (omega arith)) in
-    let first = rw e at (sum-cut k (n + (1024 - (k + n))) (λ j. cov (from + k) n (from + j))) in
-    omega (arith, first, sum-cut n (1024 - (k + n)) (λ j. cov (from + k) n (from + (k + j))))
+cov-sum from k n l = run-sum from 1024 (from + k) n (λ s lo hi. (omega arith, omega arith))
 
 -- the clear sectors of a zone, one by one
 abbrev pub clearSectors : (ℕ → ℕ) → ℕ → ℕ
@@ -166,6 +162,9 @@ module _ (v v' : View) (n : ℕ) (k : Found) (c : RunFree v n k) (took : Filled 
   pub run-held : SameFiles v v' → ((s : ℕ) → v .bit s < 2) → {f : ℕ} {d : ℕ → ℕ} → Held v f d → Held v' f (λ s. d s + cov (runStart k) n s)
   run-held files bits held = filled-held (took .zones) type-or-clear files bits held (cov (runStart k) n) (took .bit) (run-R2 (held .r2)) (run-R3 (held .r3))
 
+  pub run-keeps : SameFiles v v' → ((s : ℕ) → v .bit s < 2) → {f : ℕ} {d : ℕ → ℕ} → Held v f d → KeepsTypes d v v'
+  run-keeps files bits held = filled-keeps (took .zones) type-or-clear files bits held
+
 -- ---- the books
 
 pub length-putRun : (p : Places) (b : List ℕ) (n : ℕ) (k : Found) → length (putRun p b n k) ≡ length b
@@ -194,3 +193,6 @@ module _ (p : Places) (b : List ℕ) (n : ℕ) (k : Found) (lay : Layout p (leng
 
   pub put-run-held : {f : ℕ} {d : ℕ → ℕ} → Held (viewOf p b) f d → Held (viewOf p (putRun p b n k)) f (λ s. d s + cov (runStart k) n s)
   put-run-held = run-held (viewOf p b) (viewOf p (putRun p b n k)) n k c run-taken run-files (bitAt-lt b (p .sectortable))
+
+  pub put-run-keeps : {f : ℕ} {d : ℕ → ℕ} → Held (viewOf p b) f d → KeepsTypes d (viewOf p b) (viewOf p (putRun p b n k))
+  put-run-keeps = run-keeps (viewOf p b) (viewOf p (putRun p b n k)) n k c run-taken run-files (bitAt-lt b (p .sectortable))

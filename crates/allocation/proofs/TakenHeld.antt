@@ -12,11 +12,13 @@ use Rattle.tables.specs.Blocks.{Block, blockOf, Whole}
 use Rattle.tables.specs.Indexes.{linkOf, headerStart}
 use Rattle.tables.specs.Views.{View, Begins, Parent, walk, next, cov, tally, claimsOf, claimsOver, Under, UnderHeader}
 use Rattle.tables.specs.Same.{Same}
+use Rattle.tables.specs.Withheld.{KeepsTypes}
 use Rattle.tables.specs.Rules.R2.{R2, ZoneBits}
 use Rattle.tables.specs.Rules.R3.{R3}
 use Rattle.tables.specs.Rules.R4.{R4}
 use Rattle.tables.specs.Rules.R5.{FileChain, R5}
 use Rattle.tables.specs.Rules.R6.{Run, HeaderRun, HeaderLaw}
+use Rattle.tables.specs.Rules.R7.{Owned}
 use Rattle.tables.specs.Rules.R8.{fileSectors, InType, File}
 use Rattle.tables.specs.Rules.R9.{freeOne, activeOne, deletedOne, systemOne, directoryOne, R9}
 use Rattle.tables.proofs.BlockLaws.{block-of, data-block, block-end, block-in}
@@ -58,6 +60,10 @@ module _ (v v' : View) (zones : v' .zones ≡ v .zones) (either : (z : ℕ) → 
   type-kept s l lo set =
       let e : firstOf (zoneOf s) + s % 1024 ≡ s = omega arith in
       ⊎-elim (λ h. h) (λ c. absurd (omega (arith, set, ap (v .bit) e, c (s % 1024) (omega arith)))) (either (zoneOf s) (omega arith) (omega arith))
+
+  -- a zone with a sector that is set besides is not clear
+  pub clear-keeps : {extra : ℕ → ℕ} → ((s : ℕ) → v .bit s < 2) → Owned v extra → KeepsTypes extra v v'
+  clear-keeps bits r7 s l lo some = type-kept s l lo (omega (arith, r7 .count s l lo, bits s))
 
   pub run-kept : (a c : ℕ) → Run v a c → ((s : ℕ) → a ≤ s → s < a + c → v .bit s ≡ 1) → Run v' a c
   run-kept a c r set = record {
@@ -265,6 +271,9 @@ module _ {v v' : View} (zones : v' .zones ≡ v .zones) (either : (z : ℕ) → 
     header = λ e. filled-header i (record { low = lo; high = hi; word = e }) (h .header e);
   }
 
+  pub filled-keeps : KeepsTypes d v v'
+  filled-keeps = clear-keeps v v' zones either bits (held .r7)
+
   -- e counts the sectors that are set
   pub filled-held : (e : ℕ → ℕ) → ((s : ℕ) → s < 1024 * v .zones → v' .bit s ≡ v .bit s + e s) → R2 v' → R3 v' → Held v' f (λ s. d s + e s)
   filled-held e bit r2 r3 = record {
@@ -285,6 +294,9 @@ module _ {v v' : View} {t : ℕ} {k : Found} (can : Choosable v t k) (took : Tak
     {f : ℕ} {d : ℕ → ℕ} (held : Held v f d) where
   pub taken-types : (q ty : ℕ) → InType v q ty → InType v' q ty
   taken-types = filled-types (took .zones) (type-or-clear can took) files bits held
+
+  pub taken-keeps : KeepsTypes d v v'
+  taken-keeps = filled-keeps (took .zones) (type-or-clear can took) files bits held
 
   pub taken-held : R2 v' → R3 v' → Held v' f (λ s. d s + cov (blockStart t k) (blockOf t) s)
   taken-held = filled-held (took .zones) (type-or-clear can took) files bits held (cov (blockStart t k) (blockOf t)) (took .bit)

@@ -6,6 +6,7 @@ use lib.ListN.{getD, length}
 use Rattle.tables.specs.declared.places.Places.{Places}
 use Rattle.tables.specs.Blocks.{blockOf}
 use Rattle.tables.specs.Views.{viewOf}
+use Rattle.tables.specs.Withheld.{KeepsTypes}
 use Rattle.tables.specs.Rules.R1.{Stand, Tails}
 use Rattle.tables.specs.Rules.R8.{fileSectors, InType}
 use Rattle.allocation.specs.Growth.{Growth}
@@ -34,4 +35,5 @@ pub record Lengthened (extra : ℕ → ℕ) (p : Places) (f : ℕ) (g g' : Growt
   pub sectors : fileSectors (viewOf p (g' .books)) f ≡ fileSectors (viewOf p (g .books)) f + sectorsIn ts
   pub front : (o : ℕ) → o < 64 → getD (viewOf p (g' .books) .table f) o 0 ≡ getD (viewOf p (g .books) .table f) o 0
   pub types : (t : ℕ) → AllOf ts t → InType (viewOf p (g .books)) f t → InType (viewOf p (g' .books)) f t
+  pub keeps : KeepsTypes extra (viewOf p (g .books)) (viewOf p (g' .books))
   pub quiet : Quiet p (g .books) (g' .books)

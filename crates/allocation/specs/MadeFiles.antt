@@ -13,7 +13,6 @@ use Rattle.tables.specs.Sector1.{freeOf, firstFreeOf, putLatest}
 use Rattle.tables.specs.Indexes.{fileOf, sectorsOf, putChanged, putLength, directoryBit, systemBit}
 use Rattle.tables.specs.Views.{View, viewOf, onlyIf}
 use Rattle.tables.specs.Lawful.{LawfulWith}
-use Rattle.tables.specs.Rules.R7.{nothing}
 use Rattle.tables.specs.Rules.R1.{ceil}
 use Rattle.tables.specs.Rules.R8.{fileSectors, fileType}
 use Rattle.allocation.specs.declared.tail.Tail.{Tail}
@@ -46,9 +45,9 @@ pub record ProvidedWith (extra : ℕ → ℕ) (p : Places) (b : List ℕ) (l : T
   pub room : Enough (viewOf p b) (countAt counts)
   pub tables : TablesEnough p b l counts
 
--- with nothing set besides
-abbrev pub Provided : Places → List ℕ → Tail → List ℕ → Type 0
-Provided = ProvidedWith nothing
+-- whatever is set besides
+abbrev pub ProvidedSome : Places → List ℕ → Tail → List ℕ → Type 0
+ProvidedSome p b l counts = (extra : ℕ → ℕ) × ProvidedWith extra p b l counts
 
 -- ---- a new file: "Index tables come off the free chain's head, parent first"
 

@@ -18,7 +18,7 @@ ghost use Rattle.tables.specs.Sector1.{firstFreeOf};
 ghost use Rattle.tables.specs.Views.{viewOf, Parent};
 ghost use Rattle.allocation.specs.NextPointer.{noPointer};
 ghost use Rattle.allocation.specs.Last.{cursorOf};
-ghost use Rattle.allocation.specs.MadeFiles.{onlyCounts, Provided, started, created, grown};
+ghost use Rattle.allocation.specs.MadeFiles.{onlyCounts, ProvidedSome, started, created, grown};
 
 // n blocks of type t and of no other, H to C.
 pub fn only_counts(t: u32, n: u32) -> [u32; 6]
@@ -40,7 +40,7 @@ fn start_file(
     attribute: u32,
     counts: [u32; 6],
 ) -> Index
-    requires { ⌜ Provided p (now b) noPointer counts ⌝ }
+    requires { ⌜ ProvidedSome p (now b) noPointer counts ⌝ }
     requires { ⌜ (length (now name) ≤ 24) × (length (now date) ≡ 6) × (attribute < 128) ⌝ }
     ensures { λ r. ⌜ (r .0 ≡ firstFreeOf (now (b .entry))) × (record { books = now (b .exit); cursor = record { tail = noPointer; table = r } } ≡ started p (now (b .entry)) (record { name = now (name .entry); date = now (date .entry); length = long; attribute = attribute })) ⌝ }
 {
@@ -59,7 +59,7 @@ pub fn create_file(
     attribute: u32,
     counts: [u32; 6],
 ) -> Index
-    requires { ⌜ Provided p (now b) noPointer counts ⌝ }
+    requires { ⌜ ProvidedSome p (now b) noPointer counts ⌝ }
     requires { ⌜ (length (now name) ≤ 24) × (length (now date) ≡ 6) × (attribute < 128) ⌝ }
     ensures { λ r. ⌜ (r .0 ≡ firstFreeOf (now (b .entry))) × (now (b .exit) ≡ created p (now (b .entry)) (record { name = now (name .entry); date = now (date .entry); length = long; attribute = attribute }) counts) ⌝ }
 {
@@ -80,7 +80,7 @@ pub fn create_file(
 
 // File f with blocks of these counts more, and so many bytes.
 pub fn grow_file(b: &mut [u8], p: Places, f: Index, counts: [u32; 6], long: u32, date: &[u8])
-    requires { ⌜ Provided p (now b) (cursorOf p (now b) (f .0) .tail) counts ⌝ }
+    requires { ⌜ ProvidedSome p (now b) (cursorOf p (now b) (f .0) .tail) counts ⌝ }
     requires { ⌜ Parent (viewOf p (now b)) (f .0) ⌝ }
     requires { ⌜ length (now date) ≡ 6 ⌝ }
     ensures { λ _. ⌜ now (b .exit) ≡ grown p (now (b .entry)) (f .0) counts long (now (date .entry)) ⌝ }

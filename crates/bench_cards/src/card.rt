@@ -47,7 +47,7 @@ pub fn format_books(b: &mut [u8], zones: u32, indexes: u32) {
 }
 
 pub fn mount_books(b: &mut [u8]) {
-    say_number(b"mount number=", mount(b));
+    say_number(b"mount number=", mount(b, &[0u32; 0]));
     say(b"\n");
 }
 
@@ -82,7 +82,15 @@ fn id_of(made: Created) -> u32 {
 // Create fixed on `after`, which holds what `before` holds.
 pub fn create_on(step: &[u8], before: &[u8], after: &mut [u8], name: &[u8], size: i32, flag: i32) {
     let date = b"\x07\xea\x01\x02\x03\x05";
-    let made = create_fixed(after, name, amount_of(size), chosen_types(flag), 0, date);
+    let made = create_fixed(
+        after,
+        &[0u32; 0],
+        name,
+        amount_of(size),
+        chosen_types(flag),
+        0,
+        date,
+    );
     say_file(step, number_of(made), id_of(made), before, after);
 }
 
@@ -95,7 +103,7 @@ pub fn create(step: &[u8], card: [u8; 5120], name: &[u8], size: i32, flag: i32) 
 pub fn create_cell(step: &[u8], card: [u8; 5120], name: &[u8], cell: i32) -> [u8; 5120] {
     let mut after = card;
     let date = b"\x07\xea\x01\x02\x03\x05";
-    let made = create_variable(&mut after, name, amount_of(cell), 0, date);
+    let made = create_variable(&mut after, &[0u32; 0], name, amount_of(cell), 0, date);
     say_file(step, number_of(made), id_of(made), &card, &after);
     after
 }
@@ -103,35 +111,59 @@ pub fn create_cell(step: &[u8], card: [u8; 5120], name: &[u8], cell: i32) -> [u8
 pub fn grow_to(step: &[u8], card: [u8; 5120], id: u32, long: i32) -> [u8; 5120] {
     let mut after = card;
     let date = b"\x07\xea\x01\x02\x03\x06";
-    let number = grow(&mut after, id, amount_of(long), date);
+    let number = grow(&mut after, &[0u32; 0], id, amount_of(long), date);
     say_file(step, number, id, &card, &after);
     after
 }
 
 pub fn remove(step: &[u8], card: [u8; 5120], body: &mut [u8], id: u32) -> [u8; 5120] {
     let mut after = card;
-    let number = temporary_delete(&mut after, body, id, b"\x07\xea\x01\x02\x03\x07");
+    let number = temporary_delete(
+        &mut after,
+        &[0u32; 0],
+        body,
+        id,
+        b"\x07\xea\x01\x02\x03\x07",
+    );
     say_state(step, number, id, &card, &after);
     after
 }
 
 pub fn restore(step: &[u8], card: [u8; 5120], body: &mut [u8], id: u32) -> [u8; 5120] {
     let mut after = card;
-    let number = recover(&mut after, body, id, b"\x07\xea\x01\x02\x03\x08");
+    let number = recover(
+        &mut after,
+        &[0u32; 0],
+        body,
+        id,
+        b"\x07\xea\x01\x02\x03\x08",
+    );
     say_state(step, number, id, &card, &after);
     after
 }
 
 pub fn delete(step: &[u8], card: [u8; 5120], body: &mut [u8], id: u32) -> [u8; 5120] {
     let mut after = card;
-    let number = actual_delete(&mut after, body, id, b"\x07\xea\x01\x02\x03\x09");
+    let number = actual_delete(
+        &mut after,
+        &[0u32; 0],
+        body,
+        id,
+        b"\x07\xea\x01\x02\x03\x09",
+    );
     say_state(step, number, id, &card, &after);
     after
 }
 
 pub fn protect(step: &[u8], card: [u8; 5120], id: u32, weights: u32) -> [u8; 5120] {
     let mut after = card;
-    let number = set_protection(&mut after, id, weights, b"\x07\xea\x01\x02\x03\x0a");
+    let number = set_protection(
+        &mut after,
+        &[0u32; 0],
+        id,
+        weights,
+        b"\x07\xea\x01\x02\x03\x0a",
+    );
     say_state(step, number, id, &card, &after);
     after
 }
@@ -154,7 +186,7 @@ fn answer_value(answer: Answer) -> u32 {
 // Search with a list of two.
 pub fn find(b: &[u8], pattern: &[u8]) {
     let mut ids = [0u32; 2];
-    let answer = search(b, pattern, &mut ids);
+    let answer = search(b, &[0u32; 0], pattern, &mut ids);
     say(b"search ");
     say(pattern);
     say_ids(answer_number(answer), answer_value(answer), ids[0], ids[1]);
@@ -163,7 +195,7 @@ pub fn find(b: &[u8], pattern: &[u8]) {
 // List with room for two: each entry begins with the file's id.
 pub fn list_from(b: &[u8], from: u32) {
     let mut entries = [0u8; 128];
-    let answer = list(b, from, &mut entries);
+    let answer = list(b, &[0u32; 0], from, &mut entries);
     say_number(b"list ", from);
     say_ids(
         answer_number(answer),
@@ -176,7 +208,7 @@ pub fn list_from(b: &[u8], from: u32) {
 pub fn locate_place(b: &[u8], id: u32, k: u32) {
     say_number(b"locate ", id);
     say_number(b" ", k);
-    let found = locate(b, id, k);
+    let found = locate(b, &[0u32; 0], id, k);
     match found {
         Located::At(s) => say_number(b" sector=", s.0),
         Located::Refused(n) => say_number(b" number=", n),
@@ -186,13 +218,16 @@ pub fn locate_place(b: &[u8], id: u32, k: u32) {
 
 // Show wants the body.
 pub fn show_nothing(b: &[u8], id: u32) {
-    say_number(b"show without a body number=", show_number(b, b"", id, 0));
+    say_number(
+        b"show without a body number=",
+        show_number(b, &[0u32; 0], b"", id, 0),
+    );
     say(b"\n");
 }
 
 // Space: refused if the books break a rule.
 pub fn space(b: &[u8]) {
-    let s = space_of(b);
+    let s = space_of(b, &[0u32; 0]);
     match s {
         Space::Is(sectors, used) => {
             say_number(b"space sectors=", sectors);

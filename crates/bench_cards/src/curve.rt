@@ -26,7 +26,15 @@ fn say_moved(answer: Answer) {
 // A fixed file of 5,000 bytes in blocks of one sector.
 pub fn make(step: &[u8], books: &mut [u8], name: &[u8]) {
     let date = b"\x07\xea\x01\x02\x03\x05";
-    let made = create_fixed(books, name, amount_of(5000), chosen_types(4), 0, date);
+    let made = create_fixed(
+        books,
+        &[0u32; 0],
+        name,
+        amount_of(5000),
+        chosen_types(4),
+        0,
+        date,
+    );
     say(step);
     match made {
         Created::Done(id) => say_number(b" number=0 id=", id.0),
@@ -47,7 +55,7 @@ pub fn write_at(
     let date = b"\x07\xea\x01\x02\x03\x0b";
     let at = amount_of(position);
     let long = amount_of(length);
-    let answer = write(books, body, 1, at, long, exchange, input, date);
+    let answer = write(books, &[0u32; 0], body, 1, at, long, exchange, input, date);
     say(step);
     say_moved(answer);
     say(b"\n");
@@ -58,7 +66,7 @@ pub fn read_at(step: &[u8], books: &[u8], body: &[u8], position: i32, length: i3
     let mut out = [85u8; 5120];
     let at = amount_of(position);
     let long = amount_of(length);
-    let answer = read(books, body, 1, at, long, exchange, &mut out);
+    let answer = read(books, &[0u32; 0], body, 1, at, long, exchange, &mut out);
     say(step);
     say_moved(answer);
     say(b" first=");
@@ -69,7 +77,7 @@ pub fn read_at(step: &[u8], books: &[u8], body: &[u8], position: i32, length: i3
 
 // The k-th sector as it lies in the body: how long the part is, and its first two bytes.
 pub fn show_at(books: &[u8], body: &[u8], k: u32) {
-    let part = show(books, body, 1, k);
+    let part = show(books, &[0u32; 0], body, 1, k);
     say_number(b"show ", k);
     if part.len() < 2 {
         say(b" nothing\n");
@@ -84,20 +92,23 @@ pub fn show_at(books: &[u8], body: &[u8], k: u32) {
 
 pub fn mark(books: &mut [u8], body: &mut [u8], id: u32) {
     let date = b"\x07\xea\x01\x02\x03\x0c";
-    let number = temporary_delete(books, body, id, date);
+    let number = temporary_delete(books, &[0u32; 0], body, id, date);
     say_number(b"temporary delete number=", number);
     say(b"\n");
 }
 
 pub fn take_back(books: &mut [u8], body: &mut [u8], id: u32) {
     let date = b"\x07\xea\x01\x02\x03\x0d";
-    say_number(b"recover number=", recover(books, body, id, date));
+    say_number(
+        b"recover number=",
+        recover(books, &[0u32; 0], body, id, date),
+    );
     say(b"\n");
 }
 
 pub fn give_back(books: &mut [u8], body: &mut [u8], id: u32) {
     let date = b"\x07\xea\x01\x02\x03\x0e";
-    let number = actual_delete(books, body, id, date);
+    let number = actual_delete(books, &[0u32; 0], body, id, date);
     say_number(b"actual delete number=", number);
     say(b"\n");
 }

@@ -46,7 +46,7 @@ fn start(content: &[u8], long: usize) -> &[u8] {
 
 fn place(books: &mut [u8], body: &mut [u8], id: u32, content: &[u8]) {
     let date = b"\x07\xea\x01\x02\x03\x0f";
-    let number = place_header(books, body, id, content, date);
+    let number = place_header(books, &[0u32; 0], body, id, content, date);
     say_number(b"place header id=", id);
     say(b" long=");
     io::print_decimal(1, content.len() as u64);
@@ -83,9 +83,9 @@ fn say_content(part: &[u8], content: &[u8]) {
 }
 
 fn show(books: &[u8], body: &[u8], id: u32, content: &[u8]) {
-    let part = show_header(books, body, id);
+    let part = show_header(books, &[0u32; 0], body, id);
     say_number(b"show header id=", id);
-    say_number(b" number=", header_number(books, body, id));
+    say_number(b" number=", header_number(books, &[0u32; 0], body, id));
     say(b" len=");
     io::print_decimal(1, part.len() as u64);
     if part.len() > 0 {
@@ -118,7 +118,7 @@ fn used(books: &[u8]) {
 
 fn protect(books: &mut [u8], id: u32, weights: u32) {
     let date = b"\x07\xea\x01\x02\x03\x0a";
-    let number = set_protection(books, id, weights, date);
+    let number = set_protection(books, &[0u32; 0], id, weights, date);
     say_number(b"protect ", weights);
     say_number(b" number=", number);
     say(b"\n");

@@ -1,4 +1,4 @@
-// The bench cards on books in memory, a line for each step.
+// The bench cards on books in memory, a line for each step. No block is withheld: the list that goes with each request is empty.
 mod card;
 mod curve;
 mod header;

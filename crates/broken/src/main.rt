@@ -5,7 +5,7 @@ use requests::broken_text::broken_text;
 fn main() {
     let mut books = [0u8; 65537];
     let n = io::read_full(0, &mut books);
-    let t = broken_text(&books[..n]);
+    let t = broken_text(&books[..n], &[0u32; 0]);
     let length = t.length;
     let bytes = t.bytes;
     io::write_all(1, &bytes[..length]);

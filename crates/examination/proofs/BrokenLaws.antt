@@ -44,7 +44,7 @@ module _ (v : View) (g : Fault) (r : Bool) where
   pub counts-verdict : Says r (R9 v) → g ≡ countFault 9 r → Verdict (speaks 9 countKind (λ k. R9 v) 0 1) g
   counts-verdict s e = count-verdict 9 (R9 v) g r s e
 
-module _ (p : Places) (b : List ℕ) where
+module _ (p : Places) (b withheld : List ℕ) where
   -- ---- the rules are in order
 
   zone-kinds : Kinded (zoneRulings p b)
@@ -53,53 +53,53 @@ module _ (p : Places) (b : List ℕ) where
   index-kinds : Kinded (indexRulings p b)
   index-kinds = (omega arith, (omega arith, (omega arith, (omega arith, omega arith))))
 
-  kinds : Kinded (rulings p b)
+  kinds : Kinded (rulings p b withheld)
   kinds = (omega arith, (omega arith, (omega arith, (omega arith, (omega arith, (omega arith, (omega arith, (omega arith, (omega arith, (omega arith, omega arith))))))))))
 
   -- R4's own bytes and its chain are of one rule
-  ascending : Ascending (rulings p b)
+  ascending : Ascending (rulings p b withheld)
   ascending =
       (inl (omega arith), (inl (omega arith), (inl (omega arith), (inr (refl, omega arith), (inl (omega arith), (inl (omega arith), (inl (omega arith), (inl (omega arith), (inl (omega arith), (omega arith, omega arith))))))))))
 
   -- ---- one part of the rules after another
 
   module _ (f : Fault) (r : Bool) (h : NamesFault (zoneRulings p b) f) (q : r ≡ isFault f) where
-    pub zones-named : r ≡ true → NamesFault (rulings p b) f
-    zones-named e = fault-stop (zoneRulings p b) (indexRulings p b ++ fileRulings p b) f h (sym q ∙ e)
+    pub zones-named : r ≡ true → NamesFault (rulings p b withheld) f
+    zones-named e = fault-stop (zoneRulings p b) (indexRulings p b ++ fileRulings p b withheld) f h (sym q ∙ e)
 
     module _ (e : r ≡ false) (g : Fault) (s : Bool) (k : NamesFault (indexRulings p b) g) (t : s ≡ isFault g) where
       -- R6 holds, so R7 and R8 may be asked
       pub index-r6 : s ≡ false → R6 (viewOf p b)
       index-r6 n = no-fault-hold (indexRulings p b) [] g k index-kinds (sym t ∙ n) .1 .1 .1 .0
 
-      zones-passed : (x : Fault) → NamesFault (indexRulings p b ++ fileRulings p b) x → NamesFault (rulings p b) x
-      zones-passed x = fault-next (zoneRulings p b) (indexRulings p b ++ fileRulings p b) f h zone-kinds (sym q ∙ e) x
+      zones-passed : (x : Fault) → NamesFault (indexRulings p b ++ fileRulings p b withheld) x → NamesFault (rulings p b withheld) x
+      zones-passed x = fault-next (zoneRulings p b) (indexRulings p b ++ fileRulings p b withheld) f h zone-kinds (sym q ∙ e) x
 
-      pub indexes-named : s ≡ true → NamesFault (rulings p b) g
-      indexes-named n = zones-passed g (fault-stop (indexRulings p b) (fileRulings p b) g k (sym t ∙ n))
+      pub indexes-named : s ≡ true → NamesFault (rulings p b withheld) g
+      indexes-named n = zones-passed g (fault-stop (indexRulings p b) (fileRulings p b withheld) g k (sym t ∙ n))
 
-      pub files-named : (x : Fault) → s ≡ false → NamesFault (fileRulings p b) x → NamesFault (rulings p b) x
-      files-named x n m = zones-passed x (fault-next (indexRulings p b) (fileRulings p b) g k index-kinds (sym t ∙ n) x m)
+      pub files-named : (x : Fault) → s ≡ false → NamesFault (fileRulings p b withheld) x → NamesFault (rulings p b withheld) x
+      files-named x n m = zones-passed x (fault-next (indexRulings p b) (fileRulings p b withheld) g k index-kinds (sym t ∙ n) x m)
 
   -- ---- what is named
 
-  module _ (f : Fault) (h : NamesFault (rulings p b) f) where
+  module _ (f : Fault) (h : NamesFault (rulings p b withheld) f) where
     -- "it fails there"
-    pub broken-there : f ≢ Nothing → Broken p b (ruleOf f) (placeKindOf f) (faultPlace f)
-    broken-there ne = named-fails (rulings p b) (ruleOf f) (placeKindOf f) (faultPlace f) h (fault-some f ne)
+    pub broken-there : f ≢ Nothing → Broken p b withheld (ruleOf f) (placeKindOf f) (faultPlace f)
+    broken-there ne = named-fails (rulings p b withheld) (ruleOf f) (placeKindOf f) (faultPlace f) h (fault-some f ne)
 
     -- "nothing lower fails"
-    pub broken-lowest : f ≢ Nothing → (rule kind place : ℕ) → Broken p b rule kind place → Lower rule kind place (ruleOf f) (placeKindOf f) (faultPlace f) → ⊥
-    broken-lowest ne rule kind place = nothing-lower (rulings p b) ascending (ruleOf f) (placeKindOf f) (faultPlace f) h (fault-some f ne) rule kind place
+    pub broken-lowest : f ≢ Nothing → (rule kind place : ℕ) → Broken p b withheld rule kind place → Lower rule kind place (ruleOf f) (placeKindOf f) (faultPlace f) → ⊥
+    broken-lowest ne rule kind place = nothing-lower (rulings p b withheld) ascending (ruleOf f) (placeKindOf f) (faultPlace f) h (fault-some f ne) rule kind place
 
   -- ---- the rules hold exactly when none fails
 
   module _ (at : PlacedAt b p) where
-    lawful-hold : Lawful p b → HoldAll (rulings p b)
+    lawful-hold : Lawful p b withheld → HoldAll (rulings p b withheld)
     lawful-hold l =
-        (tails-each p b at (l .r1 .tails), (l .r2, (l .r3, (l .r4 .own, ((λ k lk lo. (l .r4 .long, l .r4 .chain)), (R5-each (viewOf p b) (l .r5), (l .r6, (R7-each (viewOf p b) (l .r7), (l .r8, ((λ k lk lo. l .r9), omega arith))))))))))
+        (tails-each p b at (l .r1 .tails), (l .r2, (l .r3, (l .r4 .own, ((λ k lk lo. (l .r4 .long, l .r4 .chain)), (R5-each (viewOf p b) (l .r5), (l .r6, (R7-each (viewOf p b) withheld (l .r7), (l .r8, ((λ k lk lo. l .r9), omega arith))))))))))
 
-    hold-lawful : HoldAll (rulings p b) → Lawful p b
+    hold-lawful : HoldAll (rulings p b withheld) → Lawful p b withheld
     hold-lawful h =
         let t = h .1 .1 .1 in
         let f = t .1 .1 .1 .1 in
@@ -111,26 +111,26 @@ module _ (p : Places) (b : List ℕ) where
           r4 = record { own = t .0; long = chain .0; chain = chain .1 };
           r5 = each-R5 (viewOf p b) (t .1 .1 .0);
           r6 = t .1 .1 .1 .0;
-          r7 = each-R7 (viewOf p b) (f .0);
+          r7 = each-R7 (viewOf p b) withheld (f .0);
           r8 = f .1 .0;
           r9 = f .1 .1 .0 0 (omega arith) (omega arith);
         }
 
-    module _ (f : Fault) (h : NamesFault (rulings p b) f) where
+    module _ (f : Fault) (h : NamesFault (rulings p b withheld) f) where
       -- "nothing is found exactly when" all rules hold
-      pub nothing-lawful : f ≡ Nothing → Lawful p b
-      nothing-lawful e = hold-lawful (names-hold (rulings p b) kinds (ruleOf f) (placeKindOf f) (faultPlace f) h (ap placeKindOf e))
+      pub nothing-lawful : f ≡ Nothing → Lawful p b withheld
+      nothing-lawful e = hold-lawful (names-hold (rulings p b withheld) kinds (ruleOf f) (placeKindOf f) (faultPlace f) h (ap placeKindOf e))
 
-      pub lawful-nothing : Lawful p b → f ≡ Nothing
-      lawful-nothing l = kind-none f (hold-none (rulings p b) (lawful-hold l) (ruleOf f) (placeKindOf f) (faultPlace f) h)
+      pub lawful-nothing : Lawful p b withheld → f ≡ Nothing
+      lawful-nothing l = kind-none f (hold-none (rulings p b withheld) (lawful-hold l) (ruleOf f) (placeKindOf f) (faultPlace f) h)
 
       -- books of which no rule fails at any place are lawful, and the other way round
-      pub nowhere-lawful : ((rule kind place : ℕ) → Broken p b rule kind place → ⊥) → Lawful p b
+      pub nowhere-lawful : ((rule kind place : ℕ) → Broken p b withheld rule kind place → ⊥) → Lawful p b withheld
       nowhere-lawful none =
           nothing-lawful (elim (ℕ-discrete (placeKindOf f) 0) [
             | yes e ↦ kind-none f e
-            | no ne ↦ absurd (none (ruleOf f) (placeKindOf f) (faultPlace f) (named-fails (rulings p b) (ruleOf f) (placeKindOf f) (faultPlace f) h (omega arith)))
+            | no ne ↦ absurd (none (ruleOf f) (placeKindOf f) (faultPlace f) (named-fails (rulings p b withheld) (ruleOf f) (placeKindOf f) (faultPlace f) h (omega arith)))
           ])
 
-    pub lawful-nowhere : Lawful p b → (rule kind place : ℕ) → Broken p b rule kind place → ⊥
-    lawful-nowhere l = hold-nowhere (rulings p b) (lawful-hold l)
+    pub lawful-nowhere : Lawful p b withheld → (rule kind place : ℕ) → Broken p b withheld rule kind place → ⊥
+    lawful-nowhere l = hold-nowhere (rulings p b withheld) (lawful-hold l)

@@ -28,14 +28,15 @@ use Rattle.tables.specs.Rules.R7.{R7}
 use Rattle.tables.specs.Rules.R8.{FileLaw}
 use Rattle.tables.specs.Rules.R9.{R9}
 use Rattle.tables.specs.Lawful.{Lawful}
+use Rattle.tables.specs.Withheld.{Withholds}
 use Rattle.examination.specs.Rulings.{SectorLaw}
 use Rattle.examination.specs.Halves.{TablesHold, FilesHold}
 use Rattle.tables.specs.Gates.{Gate}
-use Rattle.tables.specs.Books.{Sized, Marked, Limits, placeTests, Good}
-use Rattle.examination.specs.Examined.{PlacedAt, PlacesFound, Examined}
+use Rattle.tables.specs.Books.{Sized, Marked, Limits, placeTests, withheldTests, Good}
+use Rattle.examination.specs.Examined.{PlacedAt, PlacesFound, ListAllowed, Examined}
 use Rattle.tables.proofs.PlaceLaws.{stand-layout}
 use Rattle.examination.proofs.SectorLaws.{R7-each, each-R7}
-use Rattle.tables.proofs.GateLaws.{gate-fails, gate-stop, gate-skip}
+use Rattle.tables.proofs.GateLaws.{gate-fails, gate-passes, gate-end, gate-stop, gate-skip}
 
 -- a finding says whether the rule holds at every place
 pub finds-says : (P : ℕ → Type 0) (from n : ℕ) (f : Finding) (r : Bool) → Finds P from n f → r ≡ holdsAt f → Says r (Each P from n)
@@ -83,36 +84,37 @@ module _ (p : Places) (b : List ℕ) where
   pub r6-holds : (f : Finding) (r : Bool) → Finds (PointerLaw (viewOf p b)) 1 (p .indexes + 1) f → r ≡ holdsAt f → not r ≡ false → R6 (viewOf p b)
   r6-holds f r h q e = passed r (finds-says (PointerLaw (viewOf p b)) 1 (p .indexes + 1) f r h q) e
 
-  r7-says : (f : Finding) (r : Bool) → Seeks false (SectorLaw (viewOf p b)) 1024 (1024 * (p .zones - 1)) f → r ≡ holdsAt f → Says r (R7 (viewOf p b))
-  r7-says f r h q = rw q (says-map (holdsAt f) (each-R7 (viewOf p b)) (R7-each (viewOf p b)) h)
+module _ (p : Places) (b withheld : List ℕ) where
+  r7-says : (f : Finding) (r : Bool) → Seeks false (SectorLaw (viewOf p b) withheld) 1024 (1024 * (p .zones - 1)) f → r ≡ holdsAt f → Says r (R7 (viewOf p b) withheld)
+  r7-says f r h q = rw q (says-map (holdsAt f) (each-R7 (viewOf p b) withheld) (R7-each (viewOf p b) withheld) h)
 
-  pub no-r7 : (f : Finding) (r : Bool) → Seeks false (SectorLaw (viewOf p b)) 1024 (1024 * (p .zones - 1)) f → r ≡ holdsAt f → not r ≡ true → FilesHold p b → ⊥
+  pub no-r7 : (f : Finding) (r : Bool) → Seeks false (SectorLaw (viewOf p b) withheld) 1024 (1024 * (p .zones - 1)) f → r ≡ holdsAt f → not r ≡ true → FilesHold p b withheld → ⊥
   no-r7 f r h q e t = refused r (r7-says f r h q) e (t .r7)
 
-  pub no-r8 : (f : Finding) (r : Bool) → Finds (FileLaw (viewOf p b)) 1 (p .indexes + 1) f → r ≡ holdsAt f → not r ≡ true → FilesHold p b → ⊥
+  pub no-r8 : (f : Finding) (r : Bool) → Finds (FileLaw (viewOf p b)) 1 (p .indexes + 1) f → r ≡ holdsAt f → not r ≡ true → FilesHold p b withheld → ⊥
   no-r8 f r h q e t = refused r (finds-says (FileLaw (viewOf p b)) 1 (p .indexes + 1) f r h q) e (t .r8)
 
-  pub files-says : (r₇ r₈ r₉ : Bool) (f₇ f₈ : Finding) → Seeks false (SectorLaw (viewOf p b)) 1024 (1024 * (p .zones - 1)) f₇ → r₇ ≡ holdsAt f₇ → not r₇ ≡ false
-      → Finds (FileLaw (viewOf p b)) 1 (p .indexes + 1) f₈ → r₈ ≡ holdsAt f₈ → not r₈ ≡ false → Says r₉ (R9 (viewOf p b)) → Says r₉ (FilesHold p b)
+  pub files-says : (r₇ r₈ r₉ : Bool) (f₇ f₈ : Finding) → Seeks false (SectorLaw (viewOf p b) withheld) 1024 (1024 * (p .zones - 1)) f₇ → r₇ ≡ holdsAt f₇ → not r₇ ≡ false
+      → Finds (FileLaw (viewOf p b)) 1 (p .indexes + 1) f₈ → r₈ ≡ holdsAt f₈ → not r₈ ≡ false → Says r₉ (R9 (viewOf p b)) → Says r₉ (FilesHold p b withheld)
   files-says r₇ r₈ r₉ f₇ f₈ h₇ q₇ e₇ h₈ q₈ e₈ s₉ =
       says-map r₉ (λ r9. record { r7 = passed r₇ (r7-says f₇ r₇ h₇ q₇) e₇; r8 = passed r₈ (finds-says (FileLaw (viewOf p b)) 1 (p .indexes + 1) f₈ r₈ h₈ q₈) e₈; r9 = r9 }) (λ t. t .r9) s₉
 
   -- ---- all nine
 
-  tables-of : Lawful p b → TablesHold p b
+  tables-of : Lawful p b withheld → TablesHold p b
   tables-of l = record { tails = l .r1 .tails; r2 = l .r2; r3 = l .r3; r4 = l .r4; r5 = l .r5 }
 
-  files-of : Lawful p b → FilesHold p b
+  files-of : Lawful p b withheld → FilesHold p b withheld
   files-of l = record { r7 = l .r7; r8 = l .r8; r9 = l .r9 }
 
-  pub no-tables : (r : Bool) → Says r (TablesHold p b) → not r ≡ true → Lawful p b → ⊥
+  pub no-tables : (r : Bool) → Says r (TablesHold p b) → not r ≡ true → Lawful p b withheld → ⊥
   no-tables r s e l = refused r s e (tables-of l)
 
-  pub no-r6 : (f : Finding) (r : Bool) → Finds (PointerLaw (viewOf p b)) 1 (p .indexes + 1) f → r ≡ holdsAt f → not r ≡ true → Lawful p b → ⊥
+  pub no-r6 : (f : Finding) (r : Bool) → Finds (PointerLaw (viewOf p b)) 1 (p .indexes + 1) f → r ≡ holdsAt f → not r ≡ true → Lawful p b withheld → ⊥
   no-r6 f r h q e l = refused r (finds-says (PointerLaw (viewOf p b)) 1 (p .indexes + 1) f r h q) e (l .r6)
 
   pub lawful-says : (r₁ r₆ r₉ : Bool) (f₆ : Finding) → Stand p (length b) → Says r₁ (TablesHold p b) → not r₁ ≡ false
-      → Finds (PointerLaw (viewOf p b)) 1 (p .indexes + 1) f₆ → r₆ ≡ holdsAt f₆ → not r₆ ≡ false → Says r₉ (FilesHold p b) → Says r₉ (Lawful p b)
+      → Finds (PointerLaw (viewOf p b)) 1 (p .indexes + 1) f₆ → r₆ ≡ holdsAt f₆ → not r₆ ≡ false → Says r₉ (FilesHold p b withheld) → Says r₉ (Lawful p b withheld)
   lawful-says r₁ r₆ r₉ f₆ stand s₁ e₁ h₆ q₆ e₆ s₉ =
       let t = passed r₁ s₁ e₁ in
       says-map r₉ (λ f. record {
@@ -121,7 +123,7 @@ module _ (p : Places) (b : List ℕ) where
         r3 = t .r3;
         r4 = t .r4;
         r5 = t .r5;
-        r6 = r6-holds f₆ r₆ h₆ q₆ e₆;
+        r6 = r6-holds p b f₆ r₆ h₆ q₆ e₆;
         r7 = f .r7;
         r8 = f .r8;
         r9 = f .r9;
@@ -184,18 +186,50 @@ module _ (b : List ℕ) where
     pub found-unplaced : (n : ℕ) → found ≡ Unplaced n → Gate (placeTests b) n × (n ≢ 0)
     found-unplaced n e = rw e at h
 
-  pub unplaced-refused : (n : ℕ) → Gate (placeTests b) n × (n ≢ 0) → Examined b (Refused n)
-  unplaced-refused n h = (gate-stop (placeTests b) _ n (h .0) (h .1), h .1)
+  -- ---- then the withheld list
 
   module _ (p : Places) (at : PlacedAt b p) where
     pub placed-zero : Gate (placeTests b) 0
     unfolding Gate
     placed-zero = inl (at .sized, inl (at .marked, inl (at .placed, refl)))
 
-    pub refused-4 : (r : Bool) → Says r (Lawful p b) → not r ≡ true → Examined b (Refused 4)
-    refused-4 r s e =
-        let broken : Lawful (placesOf b) b → ⊥ = λ l. refused r s e (rw (at .places) l) in
-        (gate-skip (placeTests b) _ 0 4 placed-zero refl (gate-fails 4 (Lawful (placesOf b) b) [] (omega arith) broken), omega arith)
+module _ (b withheld : List ℕ) where
+  pub unplaced-listed : (n : ℕ) → Gate (placeTests b) n × (n ≢ 0) → ListAllowed b withheld (Unplaced n)
+  unplaced-listed n h = (gate-stop (placeTests b) _ n (h .0) (h .1), h .1)
 
-    pub is-fine : (r : Bool) → Says r (Lawful p b) → not r ≡ false → Good b p
-    is-fine r s e = record { places = at .places; sized = at .sized; marked = at .marked; placed = at .placed; layout = at .layout; lawful = passed r s e }
+  module _ (p : Places) (at : PlacedAt b p) (r : Bool) (s : Says r (Withholds (viewOf p b) withheld)) where
+    pub refused-7 : not r ≡ true → ListAllowed b withheld (Unplaced 7)
+    refused-7 e =
+        let wrong : Withholds (viewOf (placesOf b) b) withheld → ⊥ = λ h. refused r s e (rw (at .places) h) in
+        (gate-skip (placeTests b) _ 0 7 (placed-zero b p at) refl (gate-fails 7 (Withholds (viewOf (placesOf b) b) withheld) [] (omega arith) wrong), omega arith)
+
+    pub list-fine : not r ≡ false → ListAllowed b withheld (At p)
+    list-fine e = (at, passed r s e)
+
+  -- arm by arm
+  module _ (found : Placing) (h : ListAllowed b withheld found) where
+    pub tables-at : (p : Places) → found ≡ At p → PlacedAt b p × Withholds (viewOf p b) withheld
+    tables-at p e = rw e at h
+
+    pub tables-refused : (n : ℕ) → found ≡ Unplaced n → Gate (withheldTests b withheld) n × (n ≢ 0)
+    tables-refused n e = rw e at h
+
+  pub list-refused : (n : ℕ) → Gate (withheldTests b withheld) n × (n ≢ 0) → Examined b withheld (Refused n)
+  list-refused n h = (gate-stop (withheldTests b withheld) _ n (h .0) (h .1), h .1)
+
+  -- ---- then the rules
+
+  module _ (p : Places) (at : PlacedAt b p) (list : Withholds (viewOf p b) withheld) where
+    pub list-zero : Gate (withheldTests b withheld) 0
+    list-zero = gate-skip (placeTests b) _ 0 0 (placed-zero b p at) refl (gate-passes 7 (Withholds (viewOf (placesOf b) b) withheld) [] 0 (rw (at .places) at list) gate-end)
+
+    pub refused-4 : (r : Bool) → Says r (Lawful p b withheld) → not r ≡ true → Examined b withheld (Refused 4)
+    refused-4 r s e =
+        let broken : Lawful (placesOf b) b withheld → ⊥ = λ l. refused r s e (rw (at .places) l) in
+        (gate-skip (withheldTests b withheld) _ 0 4 list-zero refl (gate-fails 4 (Lawful (placesOf b) b withheld) [] (omega arith) broken), omega arith)
+
+    pub is-fine : (r : Bool) → Says r (Lawful p b withheld) → not r ≡ false → Good b withheld p
+    is-fine r s e = record {
+      list = list;
+      books = record { places = at .places; sized = at .sized; marked = at .marked; placed = at .placed; layout = at .layout; lawful = passed r s e };
+    }

@@ -11,8 +11,6 @@ pub mod TailLaws
 pub mod ZoneLaws
 pub mod CountedLaws
 pub mod SurveyLaws
-pub mod PieceLaws
-pub mod MarkLaws
 pub mod LimitLaws
 pub mod RulingLaws
 pub mod ChainedLaws

@@ -24,16 +24,18 @@ use Rattle.tables.specs.Indexes.{wordOf, pointerAt, slotsOf, baseOf, headerStar
 use Rattle.tables.specs.Views.{View, viewOf, cov, overOf, headerOver, claimsOf, tally, claimsOver}
 use Rattle.tables.specs.Each.{Each}
 use Rattle.tables.specs.Rules.R6.{R6}
-use Rattle.tables.specs.Rules.R7.{Owned}
+use Rattle.tables.specs.Rules.R7.{Owned, nothing}
+use Rattle.tables.specs.Withheld.{Withholds, withheldOver}
+use Rattle.tables.proofs.WithheldLaws.{withheld-once}
 use Rattle.tables.proofs.PointerLaws.{cov-in, cov-before, cov-after, cov-cases, cov-join, header-over, header-other, claimed-inside}
 use Rattle.examination.specs.declared.finding.Finding.{Finding}
 use Rattle.examination.specs.declared.finding.Finding.the-variants.{Holds, Fails}
 use Rattle.examination.specs.Findings.{Finds, Seeks}
-use Rattle.examination.specs.Marks.{markAt, MarksAdded, Adds, overFirst, overTables, TableFits}
+use Rattle.marks.specs.Marks.{markAt, MarksAdded, MarksAre, Adds, overFirst, overTables, TableFits}
 use Rattle.examination.specs.Rulings.{SectorLaw}
-use Rattle.examination.specs.Limits.{Limited, Lowers, NoMarks}
+use Rattle.examination.specs.Limits.{Limited, Lowers, MarkLaw}
 use Rattle.examination.proofs.SectorLaws.{R7-each, each-R7}
-use Rattle.examination.proofs.MarkLaws.{zeros-clear, mark-one, run-end, rule-says}
+use Rattle.marks.proofs.MarkLaws.{zeros-clear, mark-one, run-end, rule-says}
 
 -- ---- a run, sector by sector
 
@@ -153,74 +155,98 @@ clear-more m j h l k lk = elim (ℕ-discrete k j) [
   | no ne ↦ getD-set-other m j k 0 0 ne ∙ h k (omega arith)
 ]
 
-pub cleared : (m : List ℕ) (j : ℕ) → length m ≡ 4096 → ((k : ℕ) → k < j → getD m k 0 ≡ 0) → 4096 ≤ j → NoMarks m
-cleared m j long h l = record { long = long; clear = λ n. ap (λ (x : List ℕ). markAt x n) zeros ∙ zeros-clear 4096 n }
+pub cleared : (m : List ℕ) (j : ℕ) → length m ≡ 4096 → ((k : ℕ) → k < j → getD m k 0 ≡ 0) → 4096 ≤ j → MarksAre m nothing
+cleared m j long h l = record { long = long; bits = λ n. ap (λ (x : List ℕ). markAt x n) zeros ∙ zeros-clear 4096 n }
   where
     zeros : m ≡ replicate 4096 0
     zeros = ext-getD 0 m (replicate 4096 0) (long ∙ sym (length-replicate {A = ℕ} 4096 0)) (λ k g. h k (omega arith) ∙ sym (getD-zeros 4096 k))
 
-pub limited : (m₀ m : List ℕ) (limit end : ℕ) (D : ℕ → ℕ) → NoMarks m₀ → Lowers m₀ end D m limit → Limited m limit D end
-limited m₀ m limit end D z a = record {
-  long = a .long;
-  most = a .lower;
-  bits = λ s h. omega (arith, a .bits s h, z .clear s);
-  twice = ⊎-elim (λ h. inl h) (λ h. inr (omega (arith, z .clear limit))) (a .twice);
-}
+-- ---- marks and bits compared
+
+module _ (p : Places) (b m : List ℕ) (limit s : ℕ) (each : Each (λ k. bitAt b (p .sectortable) k ≡ markAt m k) 1024 s) where
+  pub unequal-here : (x y : ℕ) → 1024 ≤ s → s < limit → limit ≤ 1024 * (p .zones - 1) → x ≡ bitAt b (p .sectortable) s → y ≡ markAt m s → (x ≡ y → ⊥)
+      → Finds (MarkLaw m limit (viewOf p b .bit)) 1024 (1024 * (p .zones - 1)) (Fails s)
+  unequal-here x y lo l most ex ey ne = record {
+    low = lo;
+    high = omega arith;
+    fails = λ e. ne (ex ∙ e .1 ∙ sym ey);
+    below = λ k lk h. (omega arith, each k lk h);
+  }
+
+  pub unequal-limit : 1024 ≤ limit → limit ≤ s → limit < 1024 * (p .zones - 1) → Finds (MarkLaw m limit (viewOf p b .bit)) 1024 (1024 * (p .zones - 1)) (Fails limit)
+  unequal-limit lo h l = record {
+    low = lo;
+    high = l;
+    fails = λ e. omega (arith, e .0);
+    below = λ k lk low. (lk, each k (omega arith) low);
+  }
+
+  pub equal-all : limit ≤ s → 1024 * (p .zones - 1) ≤ limit → Finds (MarkLaw m limit (viewOf p b .bit)) 1024 (1024 * (p .zones - 1)) Holds
+  equal-all h l k lk lo = (omega arith, each k (omega arith) lo)
 
 -- ---- R7
 
-module _ (p : Places) (b m : List ℕ) (limit : ℕ) (a : Limited m limit (claimsOver (viewOf p b)) (1024 * (p .zones - 1))) where
+-- the withheld blocks were marked first, then what the tables own
+module _ (p : Places) (b withheld m₀ m : List ℕ) (limit : ℕ) (z : MarksAre m₀ (withheldOver (viewOf p b) withheld))
+    (a : Lowers m₀ (1024 * (p .zones - 1)) (claimsOver (viewOf p b)) m limit) where
+  limited : Limited m limit (λ s. claimsOver (viewOf p b) s + withheldOver (viewOf p b) withheld s) (1024 * (p .zones - 1))
+  limited = record {
+    long = a .long;
+    most = a .lower;
+    bits = λ s h. omega (arith, a .bits s h, z .bits s);
+    twice = ⊎-elim (λ h. inl h) (λ h. inr (omega (arith, z .bits limit))) (a .twice);
+  }
+
+  -- nothing in zone 1 is owned, and no sector is withheld twice
+  pub limit-inside : Layout p (length b) → R6 (viewOf p b) → Withholds (viewOf p b) withheld → (1024 ≤ limit) × (limit ≤ 1024 * (p .zones - 1))
+  limit-inside lay r6 list = (
+    elim (decLt limit 1024) [
+      | yes l ↦ ⊎-elim (λ e. omega (arith, lay .least)) (λ two.
+          absurd (omega (arith, claimed-inside (viewOf p b) r6 limit (omega (arith, withheld-once (viewOf p b) withheld list limit)) .0))) (limited .twice)
+      | no l ↦ omega arith
+    ],
+    limited .most,
+  )
+
   -- below the limit the rule is that mark and bit are the same
-  same-law : (s : ℕ) → s < limit → bitAt b (p .sectortable) s ≡ markAt m s → SectorLaw (viewOf p b) s
-  same-law s l e = omega (arith, a .bits s l)
+  same-law : (s : ℕ) → s < limit → bitAt b (p .sectortable) s ≡ markAt m s → SectorLaw (viewOf p b) withheld s
+  same-law s l e = omega (arith, limited .bits s l)
 
-  law-same : (s : ℕ) → s < limit → SectorLaw (viewOf p b) s → bitAt b (p .sectortable) s ≡ markAt m s
-  law-same s l e = omega (arith, a .bits s l)
+  law-same : (s : ℕ) → s < limit → SectorLaw (viewOf p b) withheld s → bitAt b (p .sectortable) s ≡ markAt m s
+  law-same s l e = omega (arith, limited .bits s l)
 
-  -- a sector that is owned twice breaks it
-  law-once : (s : ℕ) → SectorLaw (viewOf p b) s → claimsOver (viewOf p b) s < 2
-  law-once s e = omega (arith, bitAt-lt b (p .sectortable) s)
+  -- at the limit it fails
+  pub marks-find : 1024 ≤ limit → (f : Finding) → Finds (MarkLaw m limit (viewOf p b .bit)) 1024 (1024 * (p .zones - 1)) f → Finds (SectorLaw (viewOf p b) withheld) 1024 (1024 * (p .zones - 1)) f
+  marks-find low Holds h = λ k lk lo. (let e = h k lk lo in same-law k (e .0) (e .1))
+  marks-find low (Fails k) h = record { low = h .low; high = h .high; fails = broken; below = λ j lj lo. (let e = h .below j lj lo in same-law j (e .0) (e .1)) }
+    where
+      broken : SectorLaw (viewOf p b) withheld k → ⊥
+      broken e = elim (decLt k limit) [
+        | yes l ↦ h .fails (l, law-same k l e)
+        | no nl ↦ elim (decLt limit k) [
+          | yes over ↦ omega (arith, h .below limit over low .0)
+          | no at ↦ (let q : limit ≡ k = omega arith in
+              ⊎-elim (λ end. omega (arith, h .high)) (λ two. omega (arith, bitAt-lt b (p .sectortable) k, rw q at two)) (limited .twice))
+        ]
+      ]
 
-  -- nothing in zone 1 is owned
-  limit-low : Layout p (length b) → R6 (viewOf p b) → 1024 ≤ limit
-  limit-low lay r6 = elim (decLt limit 1024) [
-    | yes l ↦ ⊎-elim (λ e. omega (arith, lay .least)) (λ two.
-        absurd (omega (arith, claimed-inside (viewOf p b) r6 limit (omega arith) .0))) (a .twice)
-    | no l ↦ omega arith
-  ]
-
-  module _ (s : ℕ) (each : Each (λ k. bitAt b (p .sectortable) k ≡ markAt m k) 1024 s) where
-    pub unequal-here : (x y : ℕ) → 1024 ≤ s → s < limit → x ≡ bitAt b (p .sectortable) s → y ≡ markAt m s → (x ≡ y → ⊥) → Finds (SectorLaw (viewOf p b)) 1024 (1024 * (p .zones - 1)) (Fails s)
-    unequal-here x y lo l ex ey ne = record {
-      low = lo;
-      high = omega (arith, a .most);
-      fails = λ e. ne (omega (arith, law-same s l e));
-      below = λ k lk h. same-law k (omega arith) (each k lk h);
-    }
-
-    pub unequal-limit : Layout p (length b) → R6 (viewOf p b) → limit ≤ s → limit < 1024 * (p .zones - 1) → Finds (SectorLaw (viewOf p b)) 1024 (1024 * (p .zones - 1)) (Fails limit)
-    unequal-limit lay r6 h l = record {
-      low = limit-low lay r6;
-      high = l;
-      fails = λ e. ⊎-elim (λ g. omega arith) (λ two. omega (arith, law-once limit e)) (a .twice);
-      below = λ k lk lo. same-law k lk (each k (omega arith) lo);
-    }
-
-    pub equal-all : limit ≤ s → 1024 * (p .zones - 1) ≤ limit → Finds (SectorLaw (viewOf p b)) 1024 (1024 * (p .zones - 1)) Holds
-    equal-all h l k lk lo = same-law k (omega arith) (each k (omega arith) lo)
+  pub lowest-found : Layout p (length b) → R6 (viewOf p b) → Withholds (viewOf p b) withheld → (f : Finding) → Finds (MarkLaw m limit (viewOf p b .bit)) 1024 (1024 * (p .zones - 1)) f
+      → Finds (SectorLaw (viewOf p b) withheld) 1024 (1024 * (p .zones - 1)) f
+  lowest-found lay r6 list f h = marks-find (limit-inside lay r6 list .0) f h
 
 -- whether the rule holds, and where it does not, if that is sought
-module _ (p : Places) (b : List ℕ) (seek : Bool) where
-  module _ (r : Bool) (s : Says r (Owned (viewOf p b) (markAt (replicate 4096 0)))) where
-    pub seek-holds : r ≡ true → Seeks seek (SectorLaw (viewOf p b)) 1024 (1024 * (p .zones - 1)) Holds
-    seek-holds e = either seek (R7-each (viewOf p b) (says-true r (rule-says p b r s) e))
+module _ (p : Places) (b withheld : List ℕ) (seek : Bool) where
+  module _ (m : List ℕ) (are : MarksAre m (withheldOver (viewOf p b) withheld)) (r : Bool) (s : Says r (Owned (viewOf p b) (markAt m))) where
+    pub seek-holds : r ≡ true → Seeks seek (SectorLaw (viewOf p b) withheld) 1024 (1024 * (p .zones - 1)) Holds
+    seek-holds e = either seek (R7-each (viewOf p b) withheld (says-true r (rule-says (viewOf p b) withheld m r are s) e))
       where
-        either : (x : Bool) → Each (SectorLaw (viewOf p b)) 1024 (1024 * (p .zones - 1)) → Seeks x (SectorLaw (viewOf p b)) 1024 (1024 * (p .zones - 1)) Holds
+        either : (x : Bool) → Each (SectorLaw (viewOf p b) withheld) 1024 (1024 * (p .zones - 1)) → Seeks x (SectorLaw (viewOf p b) withheld) 1024 (1024 * (p .zones - 1)) Holds
         either true h = h
         either false h = h
 
-    pub seek-fails : r ≡ false → not seek ≡ true → Seeks seek (SectorLaw (viewOf p b)) 1024 (1024 * (p .zones - 1)) (Fails 0)
-    seek-fails e n = rw (not-true seek n) (λ h. says-false r (rule-says p b r s) e (each-R7 (viewOf p b) h))
+    pub seek-fails : r ≡ false → not seek ≡ true → Seeks seek (SectorLaw (viewOf p b) withheld) 1024 (1024 * (p .zones - 1)) (Fails 0)
+    seek-fails e n = rw (not-true seek n) (λ h. says-false r (rule-says (viewOf p b) withheld m r are s) e (each-R7 (viewOf p b) withheld h))
 
-  pub seek-lowest : (f : Finding) → not seek ≡ false → Finds (SectorLaw (viewOf p b)) 1024 (1024 * (p .zones - 1)) f → Seeks seek (SectorLaw (viewOf p b)) 1024 (1024 * (p .zones - 1)) f
+  pub seek-lowest : (f : Finding) → not seek ≡ false → Finds (SectorLaw (viewOf p b) withheld) 1024 (1024 * (p .zones - 1)) f
+      → Seeks seek (SectorLaw (viewOf p b) withheld) 1024 (1024 * (p .zones - 1)) f
   seek-lowest f n h = rw (not-false seek n) h

@@ -145,10 +145,7 @@ module _ (v : View) (t : List ℕ) (q : Pointer) (u : Bool) (at : q ≡ pointerA
 
 -- ---- a table
 
--- a pointer stands within the table, and all stand before the link
-pub slot-in : (i : ℕ) (t : List ℕ) (base slots j : ℕ) → base ≡ baseOf i t → slots ≡ slotsOf i t → j < slots → base + 6 * j + 6 ≤ 128
-slot-in i t base slots j eb es l = omega (arith, slots-in i t)
-
+-- all pointers stand before the link
 pub slots-room : (i : ℕ) (t : List ℕ) (at n : ℕ) → at ≡ baseOf i t → n ≡ slotsOf i t → at + 6 * n ≤ 124
 slots-room i t at n base slots = omega (arith, slots-in i t)
 

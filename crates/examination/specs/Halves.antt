@@ -20,8 +20,8 @@ pub record TablesHold (p : Places) (b : List ℕ) : Type 0 where
   pub r4 : R4 (viewOf p b)
   pub r5 : R5 (viewOf p b)
 
--- R7 to R9
-pub record FilesHold (p : Places) (b : List ℕ) : Type 0 where
-  pub r7 : R7 (viewOf p b)
+-- R7 to R9, with these blocks withheld
+pub record FilesHold (p : Places) (b withheld : List ℕ) : Type 0 where
+  pub r7 : R7 (viewOf p b) withheld
   pub r8 : R8 (viewOf p b)
   pub r9 : R9 (viewOf p b)

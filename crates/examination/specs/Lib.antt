@@ -4,7 +4,6 @@ pub mod Slots
 pub mod Met
 pub mod Counted
 pub mod Surveys
-pub mod Marks
 pub mod Halves
 pub mod Examined
 pub mod Chained

@@ -4,7 +4,7 @@ use mathlib.Core.Logic.{_⊎_}
 use mathlib.Core.List.{List}
 use Prim.Native.Nat.{ℕ, _+_, _≤_, _<_}
 use lib.ListN.{length}
-use Rattle.examination.specs.Marks.{markAt}
+use Rattle.marks.specs.Marks.{markAt}
 
 -- D counts what lies over each sector. Below the limit the marks are these counts, so none is over 1; at the limit the count is over 1, or
 -- the limit is the end
@@ -21,7 +21,6 @@ pub record Lowers (m : List ℕ) (limit : ℕ) (D : ℕ → ℕ) (m' : List ℕ)
   pub bits : (s : ℕ) → s < limit' → markAt m' s ≡ markAt m s + D s
   pub twice : (limit' ≡ limit) ⊎ (2 ≤ markAt m limit' + D limit')
 
--- no sector is marked
-pub record NoMarks (m : List ℕ) : Type 0 where
-  pub long : length m ≡ 4096
-  pub clear : (n : ℕ) → markAt m n ≡ 0
+-- at sector s, whose bit is bit s: it lies below the limit, and its mark is its bit
+abbrev pub MarkLaw : List ℕ → ℕ → (ℕ → ℕ) → ℕ → Type 0
+MarkLaw m limit bit s = (s < limit) × (bit s ≡ markAt m s)

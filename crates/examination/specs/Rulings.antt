@@ -8,12 +8,12 @@ use lib.ListN.{getD, length}
 use Rattle.tables.specs.declared.places.Places.{Places}
 use Rattle.tables.specs.Each.{Each}
 use Rattle.tables.specs.Views.{View, viewOf, claimsOver}
+use Rattle.tables.specs.Withheld.{withheldOver}
 use Rattle.tables.specs.Rules.R1.{zoneBytes, sectorBytes}
 use Rattle.tables.specs.Rules.R2.{ZoneLaw}
 use Rattle.tables.specs.Rules.R3.{BlockLaw}
 use Rattle.tables.specs.Rules.R4.{Own, FreeChain}
 use Rattle.tables.specs.Rules.R6.{PointerLaw}
-use Rattle.tables.specs.Rules.R7.{nothing}
 use Rattle.tables.specs.Rules.R8.{FileLaw}
 use Rattle.tables.specs.Rules.R9.{R9}
 use Rattle.examination.specs.Chained.{ChainLaw}
@@ -30,11 +30,12 @@ TailByte p o = ((p .zonetable + 6 * p .zones ≤ o) × (o < p .zonetable + zoneB
 abbrev pub TailLaw : Places → List ℕ → ℕ → Type 0
 TailLaw p b s = (o : ℕ) → TailByte p o → o / 1024 ≡ s → getD b o 0 ≡ 0
 
--- R7 at sector s: "a sector is owned if it is under a pointer or under a header pointer; none is owned twice", so it fails at a sector that is
--- owned twice, or whose bit does not say whether it is owned. By counting, as R7 is; the words, SectorWords of R7, follow, and give it
--- (SectorLaws: sector-words, words-sector)
-abbrev pub SectorLaw : View → ℕ → Type 0
-SectorLaw v s = claimsOver v s + nothing s ≡ v .bit s
+-- R7 at sector s: "a sector is owned if it is under a pointer or under a header pointer; none is owned twice", and "a sector's bit is set exactly
+-- if it is owned or withheld, and never both" (W7), so it fails at a sector that is owned twice, or owned and withheld, or whose bit does not
+-- say whether it is one of the two. By counting, as R7 is; the words, SectorWords of R7, follow, and give it (SectorLaws: sector-words,
+-- words-sector)
+abbrev pub SectorLaw : View → List ℕ → ℕ → Type 0
+SectorLaw v withheld s = claimsOver v s + withheldOver v withheld s ≡ v .bit s
 
 -- R4's chain
 abbrev pub FreeChained : View → Type 0
@@ -81,14 +82,14 @@ indexRulings p b = speaks 4 indexKind (Own (viewOf p b)) 1 (p .indexes + 1)
     ∷ speaks 6 indexKind (PointerLaw (viewOf p b)) 1 (p .indexes + 1)
     ∷ []
 
-abbrev pub fileRulings : Places → List ℕ → List Ruling
-fileRulings p b = speaks 7 sectorKind (SectorLaw (viewOf p b)) 1024 (1024 * (p .zones - 1))
+abbrev pub fileRulings : Places → List ℕ → List ℕ → List Ruling
+fileRulings p b withheld = speaks 7 sectorKind (SectorLaw (viewOf p b) withheld) 1024 (1024 * (p .zones - 1))
     ∷ speaks 8 indexKind (FileLaw (viewOf p b)) 1 (p .indexes + 1)
     ∷ speaks 9 countKind (λ k. R9 (viewOf p b)) 0 1
     ∷ []
 
-abbrev pub rulings : Places → List ℕ → List Ruling
-rulings p b = zoneRulings p b ++ (indexRulings p b ++ fileRulings p b)
+abbrev pub rulings : Places → List ℕ → List ℕ → List Ruling
+rulings p b withheld = zoneRulings p b ++ (indexRulings p b ++ fileRulings p b withheld)
 
 -- ---- where they fail
 
@@ -106,8 +107,8 @@ BrokenIn [] rule kind place = ⊥
 BrokenIn (r ∷ rs) rule kind place = FailsAt r rule kind place ⊎ BrokenIn rs rule kind place
 
 -- of the nine rules
-abbrev pub Broken : Places → List ℕ → ℕ → ℕ → ℕ → Type 0
-Broken p b = BrokenIn (rulings p b)
+abbrev pub Broken : Places → List ℕ → List ℕ → ℕ → ℕ → ℕ → Type 0
+Broken p b withheld = BrokenIn (rulings p b withheld)
 
 -- a lower rule, or in the same rule a lower place; within R4 tables come before the chain
 abbrev pub Lower : ℕ → ℕ → ℕ → ℕ → ℕ → ℕ → Type 0

@@ -19,6 +19,7 @@ use tables::places::Places;
 ghost use lib.ListN.{length};
 ghost use Rattle.tables.specs.Places.{Layout};
 ghost use Rattle.tables.specs.Views.{viewOf};
+ghost use Rattle.tables.specs.Withheld.{Withholds};
 ghost use Rattle.tables.specs.Rules.R6.{R6};
 ghost use Rattle.examination.specs.Examined.{PlacedAt};
 ghost use Rattle.examination.specs.Rulings.{zoneRulings, indexRulings, fileRulings, rulings};
@@ -61,12 +62,13 @@ fn index_fault(b: &[u8], p: Places) -> Fault
 }
 
 // Rules R7 to R9, once R6 holds.
-fn file_fault(b: &[u8], p: Places) -> Fault
+fn file_fault(b: &[u8], p: Places, withheld: &[u32]) -> Fault
     requires { ⌜ Layout p (length (now b)) ⌝ }
     requires { ⌜ R6 (viewOf p (now b)) ⌝ }
-    ensures { λ r. ⌜ NamesFault (fileRulings p (now (b .entry))) r ⌝ }
+    requires { ⌜ Withholds (viewOf p (now b)) (now withheld) ⌝ }
+    ensures { λ r. ⌜ NamesFault (fileRulings p (now (b .entry)) (now (withheld .entry))) r ⌝ }
 {
-    let sectors = in_sector(7, rule7(b, p, true));
+    let sectors = in_sector(7, rule7(b, p, withheld, true));
     if is_fault(sectors) {
         return sectors;
     }
@@ -78,9 +80,10 @@ fn file_fault(b: &[u8], p: Places) -> Fault
 }
 
 // All nine.
-pub fn lowest_fault(b: &[u8], p: Places) -> Fault
+pub fn lowest_fault(b: &[u8], p: Places, withheld: &[u32]) -> Fault
     requires { ⌜ PlacedAt (now b) p ⌝ }
-    ensures { λ r. ⌜ NamesFault (rulings p (now (b .entry))) r ⌝ }
+    requires { ⌜ Withholds (viewOf p (now b)) (now withheld) ⌝ }
+    ensures { λ r. ⌜ NamesFault (rulings p (now (b .entry)) (now (withheld .entry))) r ⌝ }
 {
     let zones = zone_fault(b, p);
     if is_fault(zones) {
@@ -90,5 +93,5 @@ pub fn lowest_fault(b: &[u8], p: Places) -> Fault
     if is_fault(indexes) {
         return indexes;
     }
-    file_fault(b, p)
+    file_fault(b, p, withheld)
 }

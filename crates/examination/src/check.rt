@@ -1,4 +1,4 @@
-// The examination that every request makes first: numbers 1 to 4.
+// The examination that every request makes first: numbers 1 to 3, 7 for the withheld list, and 4.
 use crate::children::rule5;
 use crate::counts::rule9;
 use crate::files::rule8;
@@ -10,6 +10,7 @@ use crate::pointers::rule6;
 use crate::tails::tails_null;
 use crate::zones::rule2;
 use crate::zones::rule3;
+use marks::withheld::withholds;
 use tables::places::Places;
 use tables::places::read_places;
 use tables::sector0;
@@ -27,12 +28,13 @@ ghost use Rattle.tables.specs.Places.{Layout};
 ghost use Rattle.tables.specs.Views.{viewOf};
 ghost use Rattle.tables.specs.Rules.R1.{Stand};
 ghost use Rattle.tables.specs.Rules.R6.{R6};
+ghost use Rattle.tables.specs.Withheld.{Withholds};
 ghost use Rattle.tables.specs.Lawful.{Lawful};
 ghost use Rattle.examination.specs.Halves.{TablesHold, FilesHold};
 ghost use Rattle.tables.specs.Books.{Sized, Marked, Limits};
-ghost use Rattle.examination.specs.Examined.{PlacesFound, Examined};
+ghost use Rattle.examination.specs.Examined.{PlacesFound, ListAllowed, Examined};
 
-// Where the tables stand, or the first of numbers 1 to 3 that applies.
+// Where the tables stand, or the first of numbers 1 to 3, or 7 for the withheld list, that applies.
 pub enum Placing {
     At(Places),
     Refused(u32),
@@ -164,12 +166,13 @@ fn tables_hold(b: &[u8], p: Places) -> bool
 }
 
 // Rules R7 to R9, once R6 holds.
-fn files_hold(b: &[u8], p: Places) -> bool
+fn files_hold(b: &[u8], p: Places, withheld: &[u32]) -> bool
     requires { ⌜ Layout p (length (now b)) ⌝ }
     requires { ⌜ R6 (viewOf p (now b)) ⌝ }
-    ensures { λ r. ⌜ Says r (FilesHold p (now (b .entry))) ⌝ }
+    requires { ⌜ Withholds (viewOf p (now b)) (now withheld) ⌝ }
+    ensures { λ r. ⌜ Says r (FilesHold p (now (b .entry)) (now (withheld .entry))) ⌝ }
 {
-    if !holds(rule7(b, p, false)) {
+    if !holds(rule7(b, p, withheld, false)) {
         return false;
     }
     if !holds(rule8(b, p)) {
@@ -179,10 +182,11 @@ fn files_hold(b: &[u8], p: Places) -> bool
 }
 
 // 4: all nine rules.
-fn rules_hold(b: &[u8], p: Places) -> bool
+fn rules_hold(b: &[u8], p: Places, withheld: &[u32]) -> bool
     requires { ⌜ Layout p (length (now b)) ⌝ }
     requires { ⌜ Stand p (length (now b)) ⌝ }
-    ensures { λ r. ⌜ Says r (Lawful p (now (b .entry))) ⌝ }
+    requires { ⌜ Withholds (viewOf p (now b)) (now withheld) ⌝ }
+    ensures { λ r. ⌜ Says r (Lawful p (now (b .entry)) (now (withheld .entry))) ⌝ }
 {
     if !tables_hold(b, p) {
         return false;
@@ -190,11 +194,11 @@ fn rules_hold(b: &[u8], p: Places) -> bool
     if !holds(rule6(b, p)) {
         return false;
     }
-    files_hold(b, p)
+    files_hold(b, p, withheld)
 }
 
 // Numbers 1 to 3: whether there are tables to examine.
-pub fn find_places(b: &[u8]) -> Placing
+fn find_places(b: &[u8]) -> Placing
     ensures { λ r. ⌜ PlacesFound (now (b .entry)) r ⌝ }
 {
     if !sized(b) {
@@ -213,14 +217,30 @@ pub fn find_places(b: &[u8]) -> Placing
     Placing::At(p)
 }
 
-pub fn check(b: &[u8]) -> Checked
-    ensures { λ r. ⌜ Examined (now (b .entry)) r ⌝ }
+// Then 7: whether the withheld list is one that these tables allow.
+pub fn find_tables(b: &[u8], withheld: &[u32]) -> Placing
+    ensures { λ r. ⌜ ListAllowed (now (b .entry)) (now (withheld .entry)) r ⌝ }
 {
     let found = find_places(b);
     match found {
+        Placing::Refused(n) => Placing::Refused(n),
+        Placing::At(p) => {
+            if !withholds(b, p, withheld) {
+                return Placing::Refused(7);
+            }
+            Placing::At(p)
+        }
+    }
+}
+
+pub fn check(b: &[u8], withheld: &[u32]) -> Checked
+    ensures { λ r. ⌜ Examined (now (b .entry)) (now (withheld .entry)) r ⌝ }
+{
+    let found = find_tables(b, withheld);
+    match found {
         Placing::Refused(n) => Checked::Refused(n),
         Placing::At(p) => {
-            if !rules_hold(b, p) {
+            if !rules_hold(b, p, withheld) {
                 return Checked::Refused(4);
             }
             Checked::Fine(p)

@@ -1,4 +1,4 @@
-// The examination that every request but format makes first: numbers 1 to 4, one function a rule over that rule's definition.
+// The examination that every request but format makes first: numbers 1 to 4 and 7 of the withheld list, one function a rule over that rule's definition.
 pub mod broken;
 pub mod chains;
 pub mod check;
@@ -8,7 +8,6 @@ pub mod fault;
 pub mod files;
 pub mod finding;
 pub mod free;
-pub mod marks;
 pub mod owned;
 pub mod pointers;
 pub mod sizes;

@@ -1,12 +1,13 @@
-// Rule R7 place by place: the lowest sector that is owned twice, or whose bit does not say whether it is owned. Sectors are marked as in the
+// Rule R7 place by place: the lowest sector that is owned twice, or owned and withheld, or whose bit does not say whether it is. Sectors are marked as in the
 // examination of the rule, but nothing is asked from the lowest sector on that was met marked already. So each sector is marked once at
 // most, and the pass is linear, however many runs lie over each other.
 use crate::finding::Finding;
-use crate::marks::WORD;
-use crate::marks::WORDS;
-use crate::marks::mark_piece;
-use crate::marks::owned;
 use field::bits::get_bit;
+use marks::marks::WORD;
+use marks::marks::WORDS;
+use marks::marks::mark_piece;
+use marks::marks::owned;
+use marks::withheld::mark_withheld;
 use tables::index;
 use tables::index::Pointer;
 use tables::kinds::Index;
@@ -18,11 +19,13 @@ ghost use Prim.Native.Nat.{_+_, _-_, _*_, _/_, _≤_, _<_};
 ghost use lib.ListN.{length};
 ghost use Rattle.tables.specs.Places.{Layout};
 ghost use Rattle.tables.specs.Views.{viewOf, cov, overOf, headerOver, claimsOf, claimsOver};
+ghost use Rattle.tables.specs.Withheld.{Withholds};
 ghost use Rattle.tables.specs.Rules.R6.{R6};
+ghost use Rattle.tables.specs.Rules.R7.{nothing};
 ghost use Rattle.examination.specs.Findings.{Finds, Seeks};
-ghost use Rattle.examination.specs.Marks.{TableFits, markAt, MarksAdded};
+ghost use Rattle.marks.specs.Marks.{TableFits, markAt, MarksAdded, MarksAre};
 ghost use Rattle.examination.specs.Rulings.{SectorLaw};
-ghost use Rattle.examination.specs.Limits.{Limited, Lowers, NoMarks};
+ghost use Rattle.examination.specs.Limits.{Lowers, MarkLaw};
 
 // Sector s's mark.
 fn mark_of(m: &[u64], s: Sector) -> u32
@@ -122,9 +125,9 @@ fn mark_tables(b: &[u8], p: Places, m: &mut [u64], limit: Sector) -> Sector
 // The lowest sector below `limit` whose mark is not its bit; else the limit, where that lies below zone Z.
 fn first_unequal(b: &[u8], p: Places, m: &[u64], limit: Sector) -> Finding
     requires { ⌜ Layout p (length (now b)) ⌝ }
-    requires { ⌜ R6 (viewOf p (now b)) ⌝ }
-    requires { ⌜ Limited (now m) (limit .0) (claimsOver (viewOf p (now b))) (1024 * (p .zones - 1)) ⌝ }
-    ensures { λ r. ⌜ Finds (SectorLaw (viewOf p (now (b .entry)))) 1024 (1024 * (p .zones - 1)) r ⌝ }
+    requires { ⌜ length (now m) ≡ 4096 ⌝ }
+    requires { ⌜ (1024 ≤ limit .0) × (limit .0 ≤ 1024 * (p .zones - 1)) ⌝ }
+    ensures { λ r. ⌜ Finds (MarkLaw (now (m .entry)) (limit .0) (viewOf p (now (b .entry)) .bit)) 1024 (1024 * (p .zones - 1)) r ⌝ }
 {
     let base = p.sectortable;
     let end = ZONE * (p.zones - 1);
@@ -144,7 +147,7 @@ fn first_unequal(b: &[u8], p: Places, m: &[u64], limit: Sector) -> Finding
 // Takes all marks away.
 fn clear_marks(m: &mut [u64])
     requires { ⌜ length (now m) ≡ 4096 ⌝ }
-    ensures { λ _. ⌜ NoMarks (now (m .exit)) ⌝ }
+    ensures { λ _. ⌜ MarksAre (now (m .exit)) nothing ⌝ }
 {
     let mut j: usize = 0;
     while j < WORDS {
@@ -154,30 +157,35 @@ fn clear_marks(m: &mut [u64])
 }
 
 // The lowest sector that breaks R7, whatever marks there were.
-fn lowest_sector(b: &[u8], p: Places, m: &mut [u64]) -> Finding
+fn lowest_sector(b: &[u8], p: Places, withheld: &[u32], m: &mut [u64]) -> Finding
     requires { ⌜ Layout p (length (now b)) ⌝ }
     requires { ⌜ R6 (viewOf p (now b)) ⌝ }
+    requires { ⌜ Withholds (viewOf p (now b)) (now withheld) ⌝ }
     requires { ⌜ length (now m) ≡ 4096 ⌝ }
-    ensures { λ r. ⌜ Finds (SectorLaw (viewOf p (now (b .entry)))) 1024 (1024 * (p .zones - 1)) r ⌝ }
+    ensures { λ r. ⌜ Finds (SectorLaw (viewOf p (now (b .entry))) (now (withheld .entry))) 1024 (1024 * (p .zones - 1)) r ⌝ }
 {
     clear_marks(m);
+    mark_withheld(b, p, withheld, m);
     let limit = mark_tables(b, p, m, Sector(ZONE * (p.zones - 1)));
     first_unequal(b, p, m, limit)
 }
 
-// R7: is each sector outside zones 1 and Z owned once if its bit is set, else not at all? The lowest that is not is sought only if it is asked
-// for, in the marks of the examination: one table of them serves both, in one function, so that no call has two on its stack.
-pub fn rule7(b: &[u8], p: Places, seek: bool) -> Finding
+// R7: is each sector outside zones 1 and Z owned once or withheld, and not both, if its bit is set, else neither? The lowest that is not so is
+// sought only if it is asked for, in the marks of the examination: one table of them serves both, in one function, so that no call has two on
+// its stack.
+pub fn rule7(b: &[u8], p: Places, withheld: &[u32], seek: bool) -> Finding
     requires { ⌜ Layout p (length (now b)) ⌝ }
     requires { ⌜ R6 (viewOf p (now b)) ⌝ }
-    ensures { λ r. ⌜ Seeks seek (SectorLaw (viewOf p (now (b .entry)))) 1024 (1024 * (p .zones - 1)) r ⌝ }
+    requires { ⌜ Withholds (viewOf p (now b)) (now withheld) ⌝ }
+    ensures { λ r. ⌜ Seeks seek (SectorLaw (viewOf p (now (b .entry))) (now (withheld .entry))) 1024 (1024 * (p .zones - 1)) r ⌝ }
 {
     let mut m = [0u64; WORDS];
+    mark_withheld(b, p, withheld, &mut m);
     if owned(b, p, &mut m) {
         return Finding::Holds;
     }
     if !seek {
         return Finding::Fails(0);
     }
-    lowest_sector(b, p, &mut m)
+    lowest_sector(b, p, withheld, &mut m)
 }

@@ -20,6 +20,7 @@ use Rattle.tables.specs.Blocks.{ZoneType}
 use Rattle.tables.specs.Places.{Layout}
 use Rattle.tables.specs.Sectors.{putSectors}
 use Rattle.tables.specs.Views.{View, viewOf, Parent, cov, claimsOf, claimsOver, Under}
+use Rattle.tables.specs.Withheld.{KeepsTypes}
 use Rattle.tables.specs.Zones.{zoneAt, putZone}
 use Rattle.tables.specs.Rules.R2.{InUse}
 use Rattle.tables.specs.Rules.R6.{R6, HeaderRun}
@@ -28,6 +29,7 @@ use Rattle.tables.specs.Rules.R8.{R8}
 use Rattle.tables.proofs.BlockLaws.{header-block}
 use Rattle.tables.proofs.PointerLaws.{cov-in, cov-cases}
 use Rattle.tables.proofs.Sector1CountLaws.{only-eq, only-ne}
+use Rattle.tables.proofs.WithheldLaws.{keeps-same, keeps-trans}
 use Rattle.tables.proofs.ZoneEntryLaws.{zone-kept}
 use Rattle.allocation.specs.Held.{Held}
 use Rattle.allocation.specs.Lengthened.{Quiet}
@@ -44,7 +46,7 @@ use Rattle.files.specs.Freed.{Short, AllShort, Uncounted, Recounted}
 use Rattle.files.specs.Headers.{freeRun}
 use Rattle.files.specs.Release.{recounted, recountZone}
 use Rattle.files.proofs.FreedBytes.{run-cleared}
-use Rattle.files.proofs.RecountRules.{Rules, recounted-rules}
+use Rattle.files.proofs.RecountRules.{Rules, recounted-rules, recounted-keeps}
 use Rattle.files.proofs.RecountView.{onlyIn, kept-one, zone-recounted, zone-quiet}
 
 -- ---- the code's ways out
@@ -225,6 +227,11 @@ module _ (p : Places) (b : List ℕ) (lay : Layout p (length b)) (a c : ℕ) (ex
 
   pub run-rules : Rules extra (viewOf p (freeRun p b a c))
   run-rules = recounted-rules w (viewOf p (freeRun p b a c)) (onlyIn z c) (bitAt-lt cleared (p .sectortable)) uncounted counts
+
+  pub run-types : KeepsTypes extra (viewOf p b) (viewOf p (freeRun p b a c))
+  run-types =
+      keeps-trans extra v w (viewOf p (freeRun p b a c)) refl (keeps-same extra v w entry)
+      (recounted-keeps w (viewOf p (freeRun p b a c)) (onlyIn z c) (bitAt-lt cleared (p .sectortable)) uncounted counts)
 
   pub run-table : (j : ℕ) → 1 ≤ j → j ≤ p .indexes → viewOf p (freeRun p b a c) .table j ≡ viewOf p b .table j
   run-table j lo hi = counts .files .table j lo hi ∙ files .table j lo hi

@@ -1,5 +1,5 @@
 -- A header placed keeps the rules; of the index tables it changes one pointer, and files stay at their places.
-use mathlib.Core.Path.{_≡_, sym, ap, _∙_}
+use mathlib.Core.Path.{_≡_, refl, sym, ap, _∙_}
 use mathlib.Core.Logic.{_≢_, inl, inr}
 use mathlib.Core.List.{List}
 use Prim.Native.Nat.{ℕ, _+_, _≤_, _<_}
@@ -13,8 +13,10 @@ use Rattle.tables.specs.Indexes.{tableAt, headerStart, headerCount}
 use Rattle.tables.specs.Lawful.{LawfulWith}
 use Rattle.tables.specs.Places.{Layout}
 use Rattle.tables.specs.Views.{viewOf, Parent, cov}
+use Rattle.tables.specs.Withheld.{KeepsTypes}
 use Rattle.tables.proofs.IndexLaws.{length-table}
 use Rattle.tables.proofs.PointerLaws.{cov-none}
+use Rattle.tables.proofs.WithheldLaws.{keeps-trans}
 use Rattle.allocation.specs.Headers.{headerPlace, runStart}
 use Rattle.allocation.specs.Held.{Held}
 use Rattle.allocation.specs.Lengthened.{Quiet}
@@ -23,8 +25,8 @@ use Rattle.allocation.proofs.HeldLawful.{all-R6, all-R8, quiet-R1, quiet-good, 
 use Rattle.allocation.proofs.PointerBytes.{word-kept, kept-pointer, pointer-start, pointer-count}
 use Rattle.files.specs.Headers.{pointedAt, headed}
 use Rattle.files.specs.Unchanged.{Untouched, SamePlaces}
-use Rattle.files.proofs.FreeRunLaws.{run-none, run-rules, run-table, run-low, run-still}
-use Rattle.files.proofs.HeadedLaws.{newHeader, pointed-quiet, pointed-low, pointed-layout, pointed-here, pointed-there, pointed-held, old-run}
+use Rattle.files.proofs.FreeRunLaws.{run-none, run-rules, run-types, run-table, run-low, run-still}
+use Rattle.files.proofs.HeadedLaws.{newHeader, pointed-quiet, pointed-low, pointed-layout, pointed-here, pointed-there, pointed-held, pointed-types, old-run}
 use Rattle.files.proofs.RecountRules.{Rules}
 use Rattle.files.proofs.UntouchedLaws.{restated-untouched, restated-places}
 
@@ -120,6 +122,19 @@ module _ (p : Places) (b : List ℕ) (lay : Layout p (length b)) {extra : ℕ �
         r8 = r .r8;
         r9 = r .r9;
       }
+
+  some-types : 0 < c → KeepsTypes extra (viewOf p pointed) (viewOf p (headed p b f n))
+  unfolding headed
+  some-types h = run-types p pointed pointed-lay a c extra held (old-run p b lay lawful f parent n some few high h)
+
+  -- zones with sectors that are set besides keep their types
+  pub headed-types : KeepsTypes extra (viewOf p b) (viewOf p (headed p b f n))
+  headed-types =
+      let types = pointed-types p b lay lawful f parent n some few high in
+      elim (decLt 0 c) [
+        | yes h ↦ keeps-trans extra (viewOf p b) (viewOf p pointed) (viewOf p (headed p b f n)) refl types (some-types h)
+        | no h ↦ (let e : c ≡ 0 = omega arith in rw (headed-none e) types)
+      ]
 
   -- ---- the file itself
 

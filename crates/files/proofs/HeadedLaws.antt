@@ -12,8 +12,10 @@ use Rattle.tables.specs.Indexes.{tableAt, wordOf, putPointer, pointerAt, header
 use Rattle.tables.specs.Lawful.{LawfulWith}
 use Rattle.tables.specs.Places.{Layout}
 use Rattle.tables.specs.Views.{viewOf, Parent, cov}
+use Rattle.tables.specs.Withheld.{KeepsTypes}
 use Rattle.tables.specs.Rules.R6.{HeaderRun}
 use Rattle.tables.proofs.IndexLaws.{length-table}
+use Rattle.tables.proofs.WithheldLaws.{keeps-same, keeps-trans}
 use Rattle.allocation.specs.declared.choice.Found.{Found}
 use Rattle.allocation.specs.Headers.{headerPlace, runStart, putRun}
 use Rattle.allocation.specs.Held.{Held}
@@ -23,7 +25,7 @@ use Rattle.allocation.proofs.ChangeLaws.{header-zones}
 use Rattle.allocation.proofs.GrownLawful.{rules-held}
 use Rattle.allocation.proofs.HeaderHeld.{header-written-held}
 use Rattle.allocation.proofs.HeldLawful.{quiet-trans, calm-quiet}
-use Rattle.allocation.proofs.RunTakenLaws.{RunFree, header-free, run-proper, length-putRun, run-taken, run-sector0, run-files, run-quiet, run-header, put-run-held}
+use Rattle.allocation.proofs.RunTakenLaws.{RunFree, header-free, run-proper, length-putRun, run-taken, run-sector0, run-files, run-quiet, run-header, put-run-held, put-run-keeps}
 use Rattle.allocation.proofs.StepLaws.{kept-pointer, pointer-still, pointer-written}
 use Rattle.files.specs.Asked.{Recountable}
 use Rattle.files.specs.Headers.{pointedAt, freeRun, headed}
@@ -102,6 +104,11 @@ module _ (p : Places) (b : List ℕ) (lay : Layout p (length b)) {extra : ℕ �
   pointed-held =
       subst (λ (x : List ℕ). Held (viewOf p pointed) 0 (λ s. extra s + cov (headerStart x) (headerCount x) s)) own
       (header-written-held (viewOf p taken) (viewOf p pointed) f new written (lay .few) taken-parent (length-table p taken f taken-layout (parent .low) (parent .high)) taken-run extra taken-held)
+
+  pub pointed-types : KeepsTypes extra (viewOf p b) (viewOf p (pointedAt p b f n (headerPlace (viewOf p b) n)))
+  pointed-types =
+      keeps-trans extra (viewOf p b) (viewOf p taken) (viewOf p pointed) refl (put-run-keeps p b n place lay new-free (rules-held p b 0 lawful))
+      (keeps-same extra (viewOf p taken) (viewOf p pointed) (written .ground .zone))
 
   -- ---- the old header
 

@@ -10,6 +10,7 @@ use Rattle.tables.specs.Kinds.{zoneOf, firstOf}
 use Rattle.tables.specs.Blocks.{blockOf, perZone}
 use Rattle.tables.specs.Indexes.{headerStart}
 use Rattle.tables.specs.Views.{View, Parent, claimsOf, claimsOver, Under}
+use Rattle.tables.specs.Withheld.{KeepsTypes}
 use Rattle.tables.specs.Rules.R2.{Reads, ZoneBits, Untyped, InUse, R2}
 use Rattle.tables.specs.Rules.R3.{R3}
 use Rattle.tables.specs.Rules.R4.{R4}
@@ -24,7 +25,7 @@ use Rattle.tables.proofs.RoomLaws.{all-clear}
 use Rattle.tables.proofs.SameLaws.{blocks-same}
 use Rattle.allocation.proofs.FileSame.{file-same}
 use Rattle.allocation.proofs.ChangeLaws.{parent-under}
-use Rattle.allocation.proofs.TakenHeld.{type-kept, run-kept, header-run-kept, files-R4, files-R5, files-tally, files-sectors, files-R9, files-under}
+use Rattle.allocation.proofs.TakenHeld.{type-kept, clear-keeps, run-kept, header-run-kept, files-R4, files-R5, files-tally, files-sectors, files-R9, files-under}
 use Rattle.files.specs.Release.{recounted}
 use Rattle.files.specs.Freed.{Uncounted, Recounted}
 
@@ -159,3 +160,7 @@ module _ (v v' : View) (freed : ℕ → ℕ) (small : (s : ℕ) → v .bit s < 2
     r8 = now-R8;
     r9 = files-R9 (h .files) (u .r9);
   }
+
+  -- a zone that is left empty has no sector that is set besides
+  pub recounted-keeps : KeepsTypes extra v v'
+  recounted-keeps = clear-keeps v v' (h .zones) type-or-clear small (u .r7)

@@ -1,5 +1,5 @@
 -- An actual delete keeps the rules.
-use mathlib.Core.Path.{_≡_}
+use mathlib.Core.Path.{_≡_, refl}
 use mathlib.Core.List.{List}
 use Prim.Native.Nat.{ℕ}
 use lib.ListN.{length}
@@ -9,6 +9,8 @@ use Rattle.tables.specs.Indexes.{tableAt, attributeOf, deletedBit}
 use Rattle.tables.specs.Places.{Layout}
 use Rattle.tables.specs.Lawful.{LawfulWith}
 use Rattle.tables.specs.Views.{viewOf, Parent}
+use Rattle.tables.specs.Withheld.{KeepsTypes}
+use Rattle.tables.proofs.WithheldLaws.{keeps-same, keeps-trans}
 use Rattle.allocation.specs.Lengthened.{Quiet}
 use Rattle.allocation.proofs.HeldLawful.{quiet-R1, quiet-trans}
 use Rattle.files.specs.Release.{freedFile, freedBlocks, released}
@@ -16,7 +18,7 @@ use Rattle.files.specs.Freed.{AllShort, Uncounted}
 use Rattle.files.proofs.FreedView.{freed-view, freed-quiet}
 use Rattle.files.proofs.FreedRules.{freed-rules}
 use Rattle.files.proofs.RecountView.{recount-view, recount-quiet}
-use Rattle.files.proofs.RecountRules.{Rules, recounted-rules}
+use Rattle.files.proofs.RecountRules.{Rules, recounted-rules, recounted-keeps}
 
 module _ (p : Places) (b : List ℕ) (lay : Layout p (length b)) {extra : ℕ → ℕ} (lawful : LawfulWith extra p b) (f : ℕ) (parent : Parent (viewOf p b) f)
     (gone : deletedBit (attributeOf (tableAt p b f)) ≡ 1) (date : List ℕ) (six : length date ≡ 6) where
@@ -59,3 +61,12 @@ module _ (p : Places) (b : List ℕ) (lay : Layout p (length b)) {extra : ℕ �
         r8 = r .r8;
         r9 = r .r9;
       }
+
+  -- zones with sectors that are set besides keep their types
+  pub released-types : KeepsTypes extra (viewOf p b) (viewOf p (released p b f date))
+  unfolding released
+  released-types =
+      let b' = freedFile p b f date in
+      keeps-trans extra (viewOf p b) (viewOf p b') (viewOf p (released p b f date)) refl (keeps-same extra (viewOf p b) (viewOf p b') (freed-view p b lay lawful f parent date six .zone))
+      (recounted-keeps (viewOf p b') (viewOf p (released p b f date)) (freedBlocks (viewOf p b) f) (bitAt-lt b' (p .sectortable)) uncounted
+      (recount-view p b' freed-layout (freedBlocks (viewOf p b) f)))

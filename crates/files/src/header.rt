@@ -17,7 +17,7 @@ use tables::zone::zone_entry;
 ghost use mathlib.Core.Path.{_≡_};
 ghost use Prim.Native.Nat.{_≤_, _<_};
 ghost use lib.ListN.{length};
-ghost use Rattle.tables.specs.Lawful.{Lawful};
+ghost use Rattle.tables.specs.Lawful.{LawfulSome};
 ghost use Rattle.tables.specs.Places.{Layout};
 ghost use Rattle.tables.specs.Views.{viewOf, Parent};
 ghost use Rattle.allocation.specs.Headers.{headerPlace};
@@ -42,7 +42,7 @@ fn free_run(b: &mut [u8], p: Places, q: Pointer)
 // Gives file f a header of n sectors at k, and frees those of the header that it has: "A replaced header gets its new place first".
 pub fn head_file(b: &mut [u8], p: Places, f: Index, n: u32, k: Found)
     requires { ⌜ Layout p (length (now b)) ⌝ }
-    requires { ⌜ Lawful p (now b) ⌝ }
+    requires { ⌜ LawfulSome p (now b) ⌝ }
     requires { ⌜ Parent (viewOf p (now b)) (f .0) ⌝ }
     requires { ⌜ (1 ≤ n) × (n ≤ 32) ⌝ }
     requires { ⌜ (k ≡ headerPlace (viewOf p (now b)) n) × (k .zone .0 < p .zones) ⌝ }

@@ -20,7 +20,7 @@ ghost use mathlib.Core.Path.{_≡_};
 ghost use Prim.Native.Nat.{_+_, _≤_, _<_};
 ghost use lib.ListN.{length};
 ghost use Rattle.tables.specs.Indexes.{tableAt, attributeOf, deletedBit, slotsOf};
-ghost use Rattle.tables.specs.Lawful.{Lawful};
+ghost use Rattle.tables.specs.Lawful.{LawfulSome};
 ghost use Rattle.tables.specs.Places.{Layout};
 ghost use Rattle.tables.specs.Sector1.{deletedOf, freeOf};
 ghost use Rattle.tables.specs.Views.{viewOf, Parent};
@@ -73,7 +73,7 @@ fn free_table(b: &mut [u8], p: Places, i: Index)
 // Frees the tables of file f, and counts them.
 fn free_tables(b: &mut [u8], p: Places, f: Index) -> u32
     requires { ⌜ Layout p (length (now b)) ⌝ }
-    requires { ⌜ Lawful p (now b) ⌝ }
+    requires { ⌜ LawfulSome p (now b) ⌝ }
     requires { ⌜ Parent (viewOf p (now b)) (f .0) ⌝ }
     ensures { λ r. ⌜ (r ≡ fileTables (viewOf p (now (b .entry))) (f .0)) × (now (b .exit) ≡ freeTables p (now (b .entry)) (chainOf (viewOf p (now (b .entry))) (f .0))) × (r ≤ 4096) ⌝ }
 {
@@ -105,7 +105,7 @@ fn put_freed(b: &mut [u8], f: Index, n: u32, date: &[u8])
 // The file's tables in order before the old free chain.
 fn free_file(b: &mut [u8], p: Places, f: Index, date: &[u8])
     requires { ⌜ Layout p (length (now b)) ⌝ }
-    requires { ⌜ Lawful p (now b) ⌝ }
+    requires { ⌜ LawfulSome p (now b) ⌝ }
     requires { ⌜ Parent (viewOf p (now b)) (f .0) ⌝ }
     requires { ⌜ deletedBit (attributeOf (tableAt p (now b) (f .0))) ≡ 1 ⌝ }
     requires { ⌜ length (now date) ≡ 6 ⌝ }
@@ -121,7 +121,7 @@ fn free_file(b: &mut [u8], p: Places, f: Index, date: &[u8])
 // The books without file f, which is deleted.
 pub fn release_file(b: &mut [u8], p: Places, f: Index, date: &[u8])
     requires { ⌜ Layout p (length (now b)) ⌝ }
-    requires { ⌜ Lawful p (now b) ⌝ }
+    requires { ⌜ LawfulSome p (now b) ⌝ }
     requires { ⌜ Parent (viewOf p (now b)) (f .0) ⌝ }
     requires { ⌜ deletedBit (attributeOf (tableAt p (now b) (f .0))) ≡ 1 ⌝ }
     requires { ⌜ length (now date) ≡ 6 ⌝ }

@@ -13,7 +13,7 @@ ghost use mathlib.Core.Path.{_≡_};
 ghost use Prim.Native.Nat.{_+_, _-_, _*_, _≤_};
 ghost use lib.ListN.{length};
 ghost use Rattle.tables.specs.Places.{Layout};
-ghost use Rattle.tables.specs.Lawful.{Lawful};
+ghost use Rattle.tables.specs.Lawful.{LawfulSome};
 ghost use Rattle.tables.specs.Views.{viewOf};
 ghost use Rattle.files.specs.Spots.{spotStart};
 ghost use Rattle.files.specs.Asked.{OnSector};
@@ -76,7 +76,7 @@ pub fn write_sectors(
     body: &mut [u8],
 )
     requires { ⌜ Layout p (length (now b)) ⌝ }
-    requires { ⌜ Lawful p (now b) ⌝ }
+    requires { ⌜ LawfulSome p (now b) ⌝ }
     requires { ⌜ Movable (viewOf p (now b)) (f .0) k n (length (now input)) (length (now body)) ⌝ }
     ensures { λ _. ⌜ now (body .exit) ≡ filled (viewOf p (now (b .entry))) (f .0) k exchange (now (input .entry)) (now (body .entry)) n ⌝ }
 {
@@ -105,7 +105,7 @@ pub fn read_sectors(
     out: &mut [u8],
 )
     requires { ⌜ Layout p (length (now b)) ⌝ }
-    requires { ⌜ Lawful p (now b) ⌝ }
+    requires { ⌜ LawfulSome p (now b) ⌝ }
     requires { ⌜ Movable (viewOf p (now b)) (f .0) k n (length (now out)) (length (now body)) ⌝ }
     ensures { λ _. ⌜ now (out .exit) ≡ fetched (viewOf p (now (b .entry))) (f .0) k exchange (now (body .entry)) (now (out .entry)) n ⌝ }
 {

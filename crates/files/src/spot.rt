@@ -13,7 +13,7 @@ ghost use mathlib.Core.Path.{_≡_};
 ghost use Prim.Native.Nat.{_+_, _<_};
 ghost use lib.ListN.{length};
 ghost use Rattle.tables.specs.Places.{Layout};
-ghost use Rattle.tables.specs.Lawful.{Lawful};
+ghost use Rattle.tables.specs.Lawful.{LawfulSome};
 ghost use Rattle.tables.specs.Rules.R8.{fileSectors};
 ghost use Rattle.tables.specs.Views.{viewOf, Parent};
 ghost use Rattle.files.specs.Spots.{spotStart, spotCount, moreAt, nextRun, onward, spotOf};
@@ -103,7 +103,7 @@ pub fn sector_of(b: &[u8], p: Places, c: Spot) -> Sector
 // The k-th sector of file f.
 pub fn seek(b: &[u8], p: Places, f: Index, k: u32) -> Spot
     requires { ⌜ Layout p (length (now b)) ⌝ }
-    requires { ⌜ Lawful p (now b) ⌝ }
+    requires { ⌜ LawfulSome p (now b) ⌝ }
     requires { ⌜ Parent (viewOf p (now b)) (f .0) ⌝ }
     requires { ⌜ k < fileSectors (viewOf p (now b)) (f .0) ⌝ }
     ensures { λ r. ⌜ r ≡ spotOf (viewOf p (now (b .entry))) (f .0) k ⌝ }

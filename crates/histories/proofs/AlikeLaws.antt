@@ -82,17 +82,18 @@ pub record SameFile (v w : Volume) (g : ℕ) : Type 0 where
   pub header : Parent (seen v) g → headerOf w g ≡ headerOf v g
 
 module _ (v w : Volume) (g : ℕ) (a : SameFile v w g) where
-  -- 1 to 5
-  same-use : (ts us : List Test) → Same ts us → Same (useTests (v .books) ++ ts) (useTests (w .books) ++ us)
+  -- 1 to 5, and 7 for the withheld list
+  same-use : (ts us : List Test) → Same ts us → Same (useTests (v .books) (v .withheld) ++ ts) (useTests (w .books) (w .withheld) ++ us)
   unfolding useTests
   same-use ts us h =
-      let old = zero-good (v .books) (a .was .lawful) in
-      let new = zero-good (w .books) (a .now .lawful) in
-      same-more 1 _ _ _ _ (λ s. new .sized) (λ s. old .sized) (λ s.
-      same-more 2 _ _ _ _ (λ s. new .marked) (λ s. old .marked) (λ s.
-      same-more 3 _ _ _ _ (λ s. new .placed) (λ s. old .placed) (λ s.
-      same-more 4 _ _ _ _ (λ s. new .lawful) (λ s. old .lawful) (λ s.
-      same-more 5 _ _ ts us (λ ne e. ne (sym (a .flag) ∙ e)) (λ ne e. ne (a .flag ∙ e)) (λ s. h)))))
+      let old = zero-good (v .books) (v .withheld) (a .was .lawful) in
+      let new = zero-good (w .books) (w .withheld) (a .now .lawful) in
+      same-more 1 _ _ _ _ (λ s. new .books .sized) (λ s. old .books .sized) (λ s.
+      same-more 2 _ _ _ _ (λ s. new .books .marked) (λ s. old .books .marked) (λ s.
+      same-more 3 _ _ _ _ (λ s. new .books .placed) (λ s. old .books .placed) (λ s.
+      same-more 7 _ _ _ _ (λ s. new .list) (λ s. old .list) (λ s.
+      same-more 4 _ _ _ _ (λ s. new .books .lawful) (λ s. old .books .lawful) (λ s.
+      same-more 5 _ _ ts us (λ ne e. ne (sym (a .flag) ∙ e)) (λ ne e. ne (a .flag ∙ e)) (λ s. h))))))
 
   -- 15, 8, 9, 10
   same-body : (n : ℕ) (ts us : List Test) → (Parent (seen v) g → Same ts us) → Same (bodyTest (v .books) (v .body) ∷ (usableTests n (v .books) g ++ ts)) (bodyTest (w .books) (w .body) ∷ (usableTests n (w .books) g ++ us))
@@ -108,40 +109,40 @@ module _ (v w : Volume) (g : ℕ) (a : SameFile v w g) where
 
   -- ---- show
 
-  show-number : (k r s : ℕ) → Gate (showTests (v .books) (v .body) g k) r → Gate (showTests (w .books) (w .body) g k) s → r ≡ s
+  show-number : (k r s : ℕ) → Gate (showTests (v .books) (v .withheld) (v .body) g k) r → Gate (showTests (w .books) (w .withheld) (w .body) g k) s → r ≡ s
   unfolding showTests
   show-number k r s = same-number _ _ r s (same-use _ _ (same-body 8 _ _ (λ parent. same-last 14 _ _ (λ l. omega (arith, a .sectors parent)) (λ l. omega (arith, a .sectors parent)))))
 
-  show-bytes : (k n : ℕ) → Gate (showTests (v .books) (v .body) g k) n → bytesOf n (v .body) (kthOf (v .books) g k) 1 ≡ bytesOf n (w .body) (kthOf (w .books) g k) 1
+  show-bytes : (k n : ℕ) → Gate (showTests (v .books) (v .withheld) (v .body) g k) n → bytesOf n (v .body) (kthOf (v .books) g k) 1 ≡ bytesOf n (w .body) (kthOf (w .books) g k) 1
   show-bytes k zero gate =
-      let q = show-asks (v .books) (v .body) g k 0 gate refl (placesOf (v .books)) refl .1 in
+      let q = show-asks (v .books) (v .withheld) (v .body) g k 0 gate refl (placesOf (v .books)) refl .1 in
       sym (a .data' (q .0) k (q .1))
   show-bytes k (suc n) gate = refl
 
-  pub shows-same : (k : ℕ) (y z : List ℕ) → Shown (v .books) (v .body) g k y → Shown (w .books) (w .body) g k z → y ≡ z
+  pub shows-same : (k : ℕ) (y z : List ℕ) → Shown (v .books) (v .withheld) (v .body) g k y → Shown (w .books) (w .withheld) (w .body) g k z → y ≡ z
   shows-same k y z old new =
       old .bytes ∙ show-bytes k (old .number) (old .gate) ∙ ap (λ (n : ℕ). bytesOf n (w .body) (kthOf (w .books) g k) 1) (show-number k _ _ (old .gate) (new .gate)) ∙ sym (new .bytes)
 
   -- ---- show header
 
-  header-number : (r s : ℕ) → Gate (showHeaderTests (v .books) (v .body) g) r → Gate (showHeaderTests (w .books) (w .body) g) s → r ≡ s
+  header-number : (r s : ℕ) → Gate (showHeaderTests (v .books) (v .withheld) (v .body) g) r → Gate (showHeaderTests (w .books) (w .withheld) (w .body) g) s → r ≡ s
   unfolding showHeaderTests
   header-number r s =
       same-number _ _ r s (same-use _ _ (same-body 8 _ _ (λ parent. same-last 14 _ _
       (λ l. omega (arith, ap headerCount (a .table parent))) (λ l. omega (arith, ap headerCount (a .table parent))))))
 
-  header-parent : Gate (showHeaderTests (v .books) (v .body) g) 0 → Parent (seen v) g
+  header-parent : Gate (showHeaderTests (v .books) (v .withheld) (v .body) g) 0 → Parent (seen v) g
   unfolding showHeaderTests
   header-parent gate =
-      let rest = gate-head 15 (BodySized (v .books) (v .body)) _ (gate-rest (useTests (v .books)) _ gate) .1 in
+      let rest = gate-head 15 (BodySized (v .books) (v .body)) _ (gate-rest (useTests (v .books) (v .withheld)) _ gate) .1 in
       usable-active 8 (v .books) g (gate-front (usableTests 8 (v .books) g) _ rest) .0
 
-  header-bytes : (n : ℕ) → Gate (showHeaderTests (v .books) (v .body) g) n
+  header-bytes : (n : ℕ) → Gate (showHeaderTests (v .books) (v .withheld) (v .body) g) n
       → bytesOf n (v .body) (headerStart (fileBytes (v .books) g)) (headerCount (fileBytes (v .books) g)) ≡ bytesOf n (w .body) (headerStart (fileBytes (w .books) g)) (headerCount (fileBytes (w .books) g))
   header-bytes zero gate = sym (a .header (header-parent gate))
   header-bytes (suc n) gate = refl
 
-  pub headers-same : (y z : List ℕ) → HeaderShown (v .books) (v .body) g y → HeaderShown (w .books) (w .body) g z → y ≡ z
+  pub headers-same : (y z : List ℕ) → HeaderShown (v .books) (v .withheld) (v .body) g y → HeaderShown (w .books) (w .withheld) (w .body) g z → y ≡ z
   headers-same y z old new =
       old .bytes ∙ header-bytes (old .number) (old .gate)
       ∙ ap (λ (n : ℕ). bytesOf n (w .body) (headerStart (fileBytes (w .books) g)) (headerCount (fileBytes (w .books) g))) (header-number _ _ (old .gate) (new .gate)) ∙ sym (new .bytes)
@@ -156,8 +157,8 @@ module _ (v w : Volume) (g : ℕ) (a : SameFile v w g) where
     unfolding readAmount
     amount-same at long = rw end-same
 
-  read-number : (position long : Amount) (room r s : ℕ) → Gate (readTests (v .books) (v .body) g position long room) r
-      → Gate (readTests (w .books) (w .body) g position long room) s → r ≡ s
+  read-number : (position long : Amount) (room r s : ℕ) → Gate (readTests (v .books) (v .withheld) (v .body) g position long room) r
+      → Gate (readTests (w .books) (w .withheld) (w .body) g position long room) s → r ≡ s
   unfolding readTests argumentTests useTests
   read-number position long room r s = same-number _ _ r s (same-use _ _ (same-more 7 _ _ _ _ (λ m. m) (λ m. m) (λ m. same-body 8 _ _ (λ parent. same-last 14 _ _ (λ l. rw (end-same parent) l) (λ l. rw (end-same parent) at l)))))
 
@@ -175,20 +176,20 @@ module _ (v w : Volume) (g : ℕ) (a : SameFile v w g) where
     abbrev asked : ℕ
     asked = amountValue long
 
-    read-answer : (n : ℕ) → Gate (readTests (v .books) (v .body) g position long (length out)) n
+    read-answer : (n : ℕ) → Gate (readTests (v .books) (v .withheld) (v .body) g position long (length out)) n
         → answerOf n (readAmount (v .books) g at asked) ≡ answerOf n (readAmount (w .books) g at asked)
-    read-answer zero gate = ap (answerOf 0) (amount-same (read-parent (v .books) (v .body) g position long (length out) 0 gate refl (placesOf (v .books)) refl) at asked)
+    read-answer zero gate = ap (answerOf 0) (amount-same (read-parent (v .books) (v .withheld) (v .body) g position long (length out) 0 gate refl (placesOf (v .books)) refl) at asked)
     read-answer (suc n) gate = refl
 
-    read-bytes : (n : ℕ) → Gate (readTests (v .books) (v .body) g position long (length out)) n
+    read-bytes : (n : ℕ) → Gate (readTests (v .books) (v .withheld) (v .body) g position long (length out)) n
         → after n (readOut (v .books) (v .body) g at (readAmount (v .books) g at asked) x out) out
         ≡ after n (readOut (w .books) (w .body) g at (readAmount (w .books) g at asked) x out) out
     read-bytes zero gate =
-        let m = read-moves (v .books) (v .body) g position long (length out) 0 gate refl (placesOf (v .books)) refl at refl asked _ refl refl in
+        let m = read-moves (v .books) (v .withheld) (v .body) g position long (length out) 0 gate refl (placesOf (v .books)) refl at refl asked _ refl refl in
         fetched-same (at / 1024) x out _ (m .parent) (m .within) ∙ ap (λ (n : ℕ). readOut (w .books) (w .body) g at n x out) (amount-same (m .parent) at asked)
     read-bytes (suc n) gate = refl
 
-    pub reads-same : (r s : Answer) (y z : List ℕ) → ReadOut (v .books) (v .body) g position long x out r y → ReadOut (w .books) (w .body) g position long x out s z → (r ≡ s) × (y ≡ z)
+    pub reads-same : (r s : Answer) (y z : List ℕ) → ReadOut (v .books) (v .withheld) (v .body) g position long x out r y → ReadOut (w .books) (w .withheld) (w .body) g position long x out s z → (r ≡ s) × (y ≡ z)
     reads-same r s y z old new =
         let e = read-number position long (length out) (numberOf r) (numberOf s) (old .number) (new .number) in (
           old .answer ∙ read-answer (numberOf r) (old .number) ∙ ap (λ (n : ℕ). answerOf n (readAmount (w .books) g at asked)) e ∙ sym (new .answer),
@@ -200,7 +201,7 @@ module _ (v w : Volume) (g : ℕ) (a : SameFile v w g) where
 
 module _ (v w : Volume) (lawful : LawfulVolume v) (f : ℕ) (position long : Amount) (x : Bool) (input date : List ℕ) (d : Does (write f position long x input date) v w) (g : ℕ) (other : g ≢ f) where
   untouched : (q : Places) → q ≡ placesOf (v .books) → Untouched (seen v) (viewOf q (w .books)) f
-  untouched q e = rw e (wrote-steady v w f position long x input date (d .0) (d .1) (zero-good (v .books) (lawful .lawful)) .0)
+  untouched q e = rw e (wrote-steady v w f position long x input date (d .0) (d .1 .promise) (zero-good (v .books) (v .withheld) (lawful .lawful) .books) .0)
 
   -- a file afterwards was one before
   stood : Untouched (seen v) (seen w) f → Parent (seen w) g → Parent (seen v) g
@@ -213,11 +214,11 @@ module _ (v w : Volume) (lawful : LawfulVolume v) (f : ℕ) (position long : Amo
   wrote-same =
       let q = write f position long x input date in
       let u = untouched (placesOf (w .books)) (step-places v w lawful q d) in
-      let old = zero-good (v .books) (lawful .lawful) in
+      let old = zero-good (v .books) (v .withheld) (lawful .lawful) .books in
       record {
         was = lawful;
         now = step-lawful v w lawful q d;
-        flag = wrote-steady v w f position long x input date (d .0) (d .1) old .1;
+        flag = wrote-steady v w f position long x input date (d .0) (d .1 .promise) old .1;
         stood = stood u;
         stands = λ h. other-parent (placesOf (v .books)) (v .books) (old .layout) (old .lawful) (seen w) f u g h other;
         table = λ h. other-table (placesOf (v .books)) (v .books) (old .layout) (old .lawful) (seen w) f u g h other;

@@ -9,7 +9,7 @@ use lib.ListN.{length, replicate}
 use Rattle.field.specs.Numbers.{u16At, u32At, putU16, putU32}
 use Rattle.field.specs.Parts.{over}
 use Rattle.tables.specs.declared.counts.Chosen.the-variants.{Types}
-use Rattle.tables.specs.Books.{Good}
+use Rattle.tables.specs.Books.{GoodWith}
 use Rattle.tables.specs.Gates.{asks, Gate}
 use Rattle.tables.specs.Places.{placesOf}
 use Rattle.tables.specs.Zones.{zoneAt, putZone}
@@ -18,10 +18,11 @@ use Rattle.tables.specs.Sector1.{firstFreeOf, flagOf}
 use Rattle.tables.specs.Views.{View, viewOf}
 use Rattle.tables.specs.Counts.{countsOf}
 use Rattle.tables.specs.Format.{freshPlaces, formatted}
+use Rattle.tables.specs.Rules.R7.{nothing}
 use Rattle.tables.proofs.GateLaws.{gate-fails, gate-passes, gate-end, gate-skip, good-gate}
 use Rattle.allocation.specs.Find.{find}
 use Rattle.allocation.specs.NextPointer.{noPointer}
-use Rattle.allocation.specs.MadeFiles.{Provided}
+use Rattle.allocation.specs.MadeFiles.{ProvidedWith}
 use Rattle.files.specs.Moves.{moved, sectorContent, fetched}
 use Rattle.files.specs.Spots.{spotOf, kthSector}
 use Rattle.requests.specs.declared.amount.Amount.the-variants.{Is}
@@ -35,7 +36,7 @@ use Rattle.requests.specs.Moving.{wholeSectors, endOf, MoveAllowed}
 use Rattle.requests.proofs.CreateKeeps.{creates-asks, fixed-lawful}
 use Rattle.requests.proofs.ReadLaws.{read-one}
 use Rattle.histories.specs.Cards.{OneResult, done, refused, cardDate, pointersIn, run, CreateNamed, Create, ReadGives, label, blank, fresh, after5, after6, after8, after9, after10, Cards}
-use Rattle.histories.proofs.CreateAnswers.{create-bad, create-done}
+use Rattle.histories.proofs.CreateAnswers.{bare-good, create-bad, create-done}
 use Rattle.histories.proofs.CardBooks.{view, withView, roomy, taken, Starts, start, Allowed, allowed, Makes, no-room, makes, bytes, pointers, zone-free, kth-same}
 
 -- ---- the views in turn
@@ -112,17 +113,17 @@ made10 : Makes 36 (fresh 9216 36) 128 33554432 1 after10 view10
 unfolding after10 view10 view roomy taken
 made10 = makes 36 (fresh 9216 36) (view 9216 36) 128 33554432 (fresh36 .usable) (only-H 33554432 (omega arith) (omega arith)) refl refl refl 1 refl
 
-abbrev good5 : Good after5 (freshPlaces 4 8)
+abbrev good5 : GoodWith nothing after5 (freshPlaces 4 8)
 good5 = made5 .usable .good
 
 -- ---- names
 
 -- what P5's file takes, a file of its size takes under any name
-provided5 : Provided (freshPlaces 4 8) (fresh 5120 4) noPointer (countsOf 252 5000)
+provided5 : ProvidedWith nothing (freshPlaces 4 8) (fresh 5120 4) noPointer (countsOf 252 5000)
 provided5 =
     let g = fresh4 .usable .good in
     let promise = made5 .result .met in
-    let asked = creates-asks (fresh 5120 4) (Allowed 252 5000) _ _ (done 1) after5 (rw (g .places) at g) (fixed-lawful (65 ∷ []) (Is 5000) (Types 252) 0 cardDate) promise refl in
+    let asked = creates-asks (fresh 5120 4) [] (Allowed 252 5000) _ _ (done 1) after5 (rw (g .places) at g) (fixed-lawful (65 ∷ []) (Is 5000) (Types 252) 0 cardDate) promise refl in
     rw (g .places) (asked .1)
 
 used4 : flagOf (fresh 5120 4) ≢ 0
@@ -168,14 +169,14 @@ kth5 = kth-same (viewOf (placesOf after5) after5) view5 1 4 (λ j l. rw (spots5 
 
 -- no number before 14 applies
 read5 : (at long n : ℕ) → at ≤ 2147483647 → at % 1024 ≡ 0 → long ≤ 2147483647 → Gate (asks 14 (at < endOf after5 1) ∷ []) n
-    → (body out : List ℕ) → BodySized after5 body → wholeSectors long ≤ length out → Gate (readTests after5 body 1 (Is at) (Is long) (length out)) n
+    → (body out : List ℕ) → BodySized after5 body → wholeSectors long ≤ length out → Gate (readTests after5 [] body 1 (Is at) (Is long) (length out)) n
 unfolding readTests argumentTests useTests usableTests stateTests
 read5 at long n few whole short last body out sized room =
     let fine : MoveAllowed (Is at) (Is long) (length out) = record { position' = few; sector = whole; long' = short; buffer = room } in
     let word = ap wordOf bytes5 ∙ fields5 .0 in
     let attribute = ap attributeOf bytes5 ∙ fields5 .2 in
-    gate-skip (argumentTests after5 (MoveAllowed (Is at) (Is long) (length out))) _ 0 n
-    (gate-skip (useTests after5) _ 0 0 (good-gate after5 (freshPlaces 4 8) _ 0 good5 (gate-passes 5 _ [] 0 (λ z. omega (arith, z, made5 .usable .mounted)) gate-end)) refl (gate-passes 7 _ [] 0 fine gate-end))
+    gate-skip (argumentTests after5 [] (MoveAllowed (Is at) (Is long) (length out))) _ 0 n
+    (gate-skip (useTests after5 []) _ 0 0 (good-gate after5 [] (freshPlaces 4 8) _ 0 (bare-good after5 (freshPlaces 4 8) good5) (gate-passes 5 _ [] 0 (λ z. omega (arith, z, made5 .usable .mounted)) gate-end)) refl (gate-passes 7 _ [] 0 fine gate-end))
     refl
     (gate-passes 15 _ _ n sized
     (gate-passes 8 _ _ n (record { low = omega arith; high = good5 .placed .limits .some; word = word })
@@ -190,9 +191,9 @@ output5 : (exchange : Bool) (body out : List ℕ) → readOut after5 body 1 4096
 unfolding fetched
 output5 exchange body out = ap (λ (s : ℕ). over out 0 (moved exchange (sectorContent body s))) kth5
 
-one-read : (b : List ℕ) (at long : ℕ) (exchange : Bool) (body out : List ℕ) (r : Answer) (out' : List ℕ) → ReadOut b body 1 (Is at) (Is long) exchange out r out'
-    → OneResult (ReadOut b body 1 (Is at) (Is long) exchange out) r out'
-one-read b at long exchange body out r out' h = record { met = h; only = λ s o k. read-one b body 1 (Is at) (Is long) exchange out s r o out' k h }
+one-read : (b : List ℕ) (at long : ℕ) (exchange : Bool) (body out : List ℕ) (r : Answer) (out' : List ℕ) → ReadOut b [] body 1 (Is at) (Is long) exchange out r out'
+    → OneResult (ReadOut b [] body 1 (Is at) (Is long) exchange out) r out'
+one-read b at long exchange body out r out' h = record { met = h; only = λ s o k. read-one b [] body 1 (Is at) (Is long) exchange out s r o out' k h }
 
 last-sector : ReadGives after5 4096 2048 (Done 1024) (λ exchange body out. over out 0 (moved exchange (sectorContent body 2048)))
 last-sector exchange body out sized room = one-read after5 4096 2048 exchange body out (Done 1024) (over out 0 (moved exchange (sectorContent body 2048))) (record {

@@ -16,7 +16,7 @@ use Rattle.tables.specs.declared.counts.Chosen.the-variants.{Types}
 use Rattle.tables.specs.declared.places.Places.{Places}
 use Rattle.tables.specs.declared.zone.ZoneEntry.{ZoneEntry}
 use Rattle.tables.specs.Blocks.{blockOf}
-use Rattle.tables.specs.Books.{Sized, Good}
+use Rattle.tables.specs.Books.{Sized, GoodWith}
 use Rattle.tables.specs.Dates.{Date}
 use Rattle.tables.specs.Names.{NewText}
 use Rattle.tables.specs.Zones.{zoneAt}
@@ -30,6 +30,8 @@ use Rattle.tables.specs.Counts.{countsOf}
 use Rattle.tables.specs.Format.{Formattable, Writable, freshPlaces}
 use Rattle.tables.specs.Rules.R1.{Stand}
 use Rattle.tables.proofs.GateLaws.{gate-passes, gate-end}
+use Rattle.tables.specs.Rules.R7.{nothing}
+use Rattle.tables.proofs.WithheldLaws.{good-same, none-withheld}
 use Rattle.tables.proofs.CountsLaws.{counts-six}
 use Rattle.tables.proofs.SameLaws.{same-ground}
 use Rattle.tables.proofs.RoomLaws.{supply-enough}
@@ -37,7 +39,7 @@ use Rattle.allocation.specs.Find.{find}
 use Rattle.allocation.specs.Choice.{inOrder, inTurn, choose}
 use Rattle.allocation.specs.NextPointer.{noPointer}
 use Rattle.allocation.specs.Stock.{Stocked}
-use Rattle.allocation.specs.MadeFiles.{Provided, started}
+use Rattle.allocation.specs.MadeFiles.{ProvidedWith, started}
 use Rattle.allocation.proofs.OrderLaws.{order-typed, order-enough}
 use Rattle.allocation.proofs.NextGround.{ground-sym, ground-trans, enough-ground}
 use Rattle.allocation.proofs.FileLaws.{provided-head, started-made, ready-start}
@@ -58,7 +60,7 @@ use Rattle.requests.proofs.CreateKeeps.{fixed-keeps}
 use Rattle.requests.proofs.RequestLaws.{good-room}
 use Rattle.requests.proofs.FlagLaws.{flag-turn}
 use Rattle.histories.specs.Cards.{OneResult, done, refused, cardDate, pointersIn, pointersOf, freeIn, Create, label, blank, fresh, FreshBooks, plainFile, withFile}
-use Rattle.histories.proofs.CreateAnswers.{create-done, create-no-room}
+use Rattle.histories.proofs.CreateAnswers.{bare-good, create-done, create-no-room}
 
 -- ---- the views
 
@@ -97,7 +99,7 @@ formattable len z least most end =
 
 pub record Usable (z : ℕ) (b : List ℕ) (w : View) : Type 0 where
   pub staged : Staged (freshPlaces z 8) b w
-  pub good : Good b (freshPlaces z 8)
+  pub good : GoodWith nothing b (freshPlaces z 8)
   pub mounted : flagOf b ≡ 1
 
 -- fresh ones
@@ -115,8 +117,9 @@ module _ (len z : ℕ) (whole : len % 1024 ≡ 0) (long : 5120 ≤ len) (small :
         books = rw e refl;
       }
 
-  blank-good : Good (blank len z) (freshPlaces z 8)
-  blank-good = formatted-good (replicate len 0) (Is z) (Is 8) label (blank len z) (blank-formatted (replicate len 0) (length-replicate {A = ℕ} len 0))
+  blank-good : GoodWith nothing (blank len z) (freshPlaces z 8)
+  blank-good = good-same (blank len z) (freshPlaces z 8) (λ s. sym (none-withheld (viewOf (freshPlaces z 8) (blank len z)) s))
+      (formatted-good (replicate len 0) (Is z) (Is 8) label (blank len z) (blank-formatted (replicate len 0) (length-replicate {A = ℕ} len 0)) .books)
 
   -- each equation is computed
   pub start : find (λ y. ltb 0 (zoneAt (freshPlaces z 8) (blank len z) y .ztype)) (z - 2) 2 ≡ z → firstFreeOf (blank len z) ≡ 1 → freeOf (blank len z) ≡ 8 → flagOf (blank len z) ≡ 0
@@ -125,7 +128,7 @@ module _ (len z : ℕ) (whole : len % 1024 ≡ 0) (long : 5120 ≤ len) (small :
   start none head free flag =
       let p = freshPlaces z 8 in
       let staged = staged-fresh len z 8 label long small (formattable len z least most end) label-writable none head free in
-      let mounted : Mounted (blank len z) 0 (fresh len z) = record { number = mount-judged (blank len z) 0 (judge-fine (blank len z) 1 6 p 0 blank-good (sym flag) (omega arith) .1); books = refl } in
+      let mounted : Mounted (blank len z) [] 0 (fresh len z) = record { number = mount-judged (blank len z) [] 0 (judge-fine (blank len z) [] 1 6 p 0 (bare-good (blank len z) p blank-good) (sym flag) (omega arith) .1); books = refl } in
       record {
         usable = record {
           staged = staged-flag p (blank len z) (fresh len z) (view len z) (kept-putU16 (blank len z) 1054 1) staged;
@@ -134,7 +137,7 @@ module _ (len z : ℕ) (whole : len % 1024 ≡ 0) (long : 5120 ≤ len) (small :
         };
         promised = λ b e. (
           record { met = blank-formatted b e; only = λ s c h. formatted-one h (blank-formatted b e) },
-          record { met = mounted; only = λ s c h. mounted-one (blank len z) s 0 c (fresh len z) h mounted },
+          record { met = mounted; only = λ s c h. mounted-one (blank len z) [] s 0 c (fresh len z) h mounted },
         );
       }
 
@@ -183,7 +186,7 @@ module _ (z : ℕ) (b : List ℕ) (w : View) (flag size : ℕ) (u : Usable z b w
   -- each equation is computed
   module _ (few : ltb (length (inOrder counts)) 1099511627776 ≡ true) (room : roomy w counts ≡ true) (tables : leb (taken w flag size) (w .free) ≡ true) where
     -- the file's blocks and tables can be had
-    provided : Provided p b noPointer counts
+    provided : ProvidedWith nothing p b noPointer counts
     unfolding roomy taken startedView
     provided =
         let s = u .staged in
@@ -223,7 +226,7 @@ module _ (z : ℕ) (b : List ℕ) (w : View) (flag size : ℕ) (u : Usable z b w
     makes id e = record {
       usable = record {
         staged = staged;
-        good = fixed-keeps b (65 ∷ []) (Is size) (Types flag) 0 cardDate _ _ p (result .met) (u .good);
+        good = fixed-keeps b [] (65 ∷ []) (Is size) (Types flag) 0 cardDate _ _ p (result .met) (u .good);
         mounted = still-mounted;
       };
       result = rw (sym (u .staged .same .head) ∙ e) at result;

@@ -7,7 +7,7 @@ use Prim.Native.Nat.{ℕ}
 use native.Mathlib.Omega.{arith}
 use Rattle.tables.specs.declared.counts.Chosen.the-variants.{Types}
 use Rattle.tables.specs.declared.places.Places.{Places}
-use Rattle.tables.specs.Books.{Good}
+use Rattle.tables.specs.Books.{Good, GoodWith}
 use Rattle.tables.specs.Counts.{countsOf}
 use Rattle.tables.specs.Gates.{Gate}
 use Rattle.tables.specs.Room.{countAt, Supply}
@@ -15,7 +15,7 @@ use Rattle.tables.specs.Sector1.{firstFreeOf, flagOf}
 use Rattle.tables.specs.Views.{viewOf}
 use Rattle.tables.proofs.GateLaws.{gate-fails, gate-passes, gate-end}
 use Rattle.tables.proofs.RoomLaws.{enough-supply}
-use Rattle.allocation.specs.MadeFiles.{Provided, created}
+use Rattle.allocation.specs.MadeFiles.{ProvidedWith, created}
 use Rattle.allocation.specs.NewTables.{New}
 use Rattle.allocation.specs.NextPointer.{noPointer}
 use Rattle.requests.specs.declared.amount.Amount.the-variants.{Is}
@@ -23,13 +23,19 @@ use Rattle.requests.specs.declared.create.Created.{Created}
 use Rattle.requests.specs.Answers.{useTests, argumentTests}
 use Rattle.requests.specs.Create.{roomTests, Creates, attributeFor, FixedAllowed, CreatedFixed}
 use Rattle.histories.specs.Cards.{OneResult, done, refused}
+use Rattle.tables.specs.Rules.R7.{nothing}
+use Rattle.tables.proofs.WithheldLaws.{good-same, none-withheld, none-list}
 use Rattle.requests.proofs.JudgedLaws.{use-fine}
 use Rattle.requests.proofs.ArgumentLaws.{argument-refused, argument-fine}
 use Rattle.requests.proofs.CreateLaws.{make-refused, make-done, create-stops, create-ends, creates-one}
 
-module _ (b : List ℕ) (p : Places) (name : List ℕ) (size flag kind : ℕ) (date : List ℕ) (good : Good b p) (mounted : flagOf b ≢ 0) where
+-- books with nothing set besides are good with no block withheld
+pub bare-good : (b : List ℕ) (p : Places) → GoodWith nothing b p → Good b [] p
+bare-good b p g = record { list = none-list (viewOf p b); books = good-same b p (none-withheld (viewOf p b)) g }
+
+module _ (b : List ℕ) (p : Places) (name : List ℕ) (size flag kind : ℕ) (date : List ℕ) (good : GoodWith nothing b p) (mounted : flagOf b ≢ 0) where
   abbrev Promise : Created → List ℕ → Type 0
-  Promise = CreatedFixed b name (Is size) (Types flag) kind date
+  Promise = CreatedFixed b [] name (Is size) (Types flag) kind date
 
   abbrev Allowed : Type 0
   Allowed = FixedAllowed name (Is size) (Types flag) kind date
@@ -41,28 +47,28 @@ module _ (b : List ℕ) (p : Places) (name : List ℕ) (size flag kind : ℕ) (d
   new = record { name = name; date = date; length = size; attribute = attributeFor 0 kind }
 
   one : (r : Created) (b' : List ℕ) → Promise r b' → OneResult Promise r b'
-  one r b' h = record { met = h; only = λ s c k. creates-one (argumentTests b Allowed) b counts new s r c b' k h }
+  one r b' h = record { met = h; only = λ s c k. creates-one (argumentTests b [] Allowed) b counts new s r c b' k h }
 
-  used : Gate (useTests b) 0
-  used = use-fine b p (flagOf b) good refl mounted
+  used : Gate (useTests b []) 0
+  used = use-fine b [] p (flagOf b) (bare-good b p good) refl mounted
 
   -- 7
   pub create-bad : (Allowed → ⊥) → OneResult Promise (refused 7) b
-  create-bad h = one (refused 7) b (create-stops b counts new Allowed false h 7 (argument-refused b false 0 used refl refl) (omega arith))
+  create-bad h = one (refused 7) b (create-stops b [] counts new Allowed false h 7 (argument-refused b [] false 0 used refl refl) (omega arith))
 
   module _ (allowed : Allowed) where
     made : (r : Created) (b' : List ℕ) → Creates [] b counts new r b' → OneResult Promise r b'
-    made r b' m = one r b' (create-ends b counts new Allowed true allowed 0 (argument-fine b true 0 used refl refl) r b' refl m)
+    made r b' m = one r b' (create-ends b [] counts new Allowed true allowed 0 (argument-fine b [] true 0 used refl refl) r b' refl m)
 
     -- 0: blocks and tables can be had
-    pub create-done : Provided p b noPointer counts → OneResult Promise (done (firstFreeOf b)) (created p b new counts)
+    pub create-done : ProvidedWith nothing p b noPointer counts → OneResult Promise (done (firstFreeOf b)) (created p b new counts)
     unfolding roomTests
     create-done h =
         let supply = enough-supply (viewOf p b) (h .lawful .r2) (h .lawful .r3) (countAt counts) (h .room) in
         let room : Gate (roomTests p b noPointer counts) 0 = gate-passes 12 _ _ 0 supply (gate-passes 13 _ [] 0 (h .tables) gate-end) in
-        made _ _ (make-done b counts new p noPointer 0 (record { 0 = firstFreeOf b }) _ (good .places) refl room refl refl refl)
+        made _ _ (make-done b [] counts new p noPointer 0 (record { 0 = firstFreeOf b }) _ (good .places) refl room refl refl refl)
 
     -- 12
     pub create-no-room : (Supply (viewOf p b) (countAt counts) → ⊥) → OneResult Promise (refused 12) b
     unfolding roomTests
-    create-no-room h = made _ _ (make-refused b counts new p noPointer 12 (good .places) refl (gate-fails 12 _ _ (omega arith) h) (omega arith))
+    create-no-room h = made _ _ (make-refused b [] counts new p noPointer 12 (good .places) refl (gate-fails 12 _ _ (omega arith) h) (omega arith))

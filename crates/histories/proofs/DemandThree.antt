@@ -1,20 +1,21 @@
--- Demand 3 as W1 amends it, sentence by sentence: "From lawful books and a body of the right length, after any requests without format, refused
+-- Demand 3 as W1 and W7 amend it, sentence by sentence: "From lawful books and a body of the right length, after any requests without format, refused
 -- ones included: the rules still hold; each sector outside the system zones is free or belongs to one place of one file; a request changes no
 -- index table and no data byte of a file it does not name; each file sector holds what the last write put there until the file's actual delete;
 -- no index chain is longer than the number of index tables." "Header runs are owned sectors of the file"; "Demand 3 then reads 'data and header
 -- bytes'. Its sentence on the last write stays one about data sectors; a header holds what its placing put there, but for the id, until it is
--- replaced or its file actually deleted." The terms are those of specs/History.antt.
+-- replaced or its file actually deleted." "Demand 3 reads 'free, withheld, or one place of one file'": what else W7 says of withheld sectors
+-- stands in WornSectors. The terms are those of specs/History.antt.
 use mathlib.Core.Path.{_≡_, refl, sym, ap, _∙_}
 use mathlib.Core.Logic.{_⊎_, inl, inr, ⊎-elim, _≢_}
 use mathlib.Core.Bool.{Bool}
 use mathlib.Core.List.{List}
 use Prim.Native.Nat.{ℕ, suc, _+_, _-_, _*_, _≤_, _<_}
-use native.Mathlib.Decide.{ℕ-discrete}
+use native.Mathlib.Decide.{ℕ-discrete, decLt}
 use native.Mathlib.Omega.{arith}
 use lib.ListN.{length, drop}
 use Rattle.field.proofs.BitLaws.{bitAt-lt}
 use Rattle.tables.specs.declared.index.Pointer.{Pointer}
-use Rattle.tables.specs.Books.{Good}
+use Rattle.tables.specs.Books.{GoodWith}
 use Rattle.tables.specs.Indexes.{baseOf, pointerAt, fileOf, headerStart, headerCount}
 use Rattle.tables.specs.Lawful.{Lawful}
 use Rattle.tables.specs.Places.{placesOf, Layout}
@@ -22,8 +23,10 @@ use Rattle.tables.specs.Rules.R4.{FreeChain}
 use Rattle.tables.specs.Rules.R5.{FileChain}
 use Rattle.tables.specs.Rules.R8.{fileSectors}
 use Rattle.tables.specs.Views.{viewOf, Parent, UnderHeader}
+use Rattle.tables.specs.Withheld.{withheldOver, Withheld}
 use Rattle.tables.proofs.GateLaws.{zero-good}
 use Rattle.tables.proofs.PointerLaws.{set-owned}
+use Rattle.tables.proofs.WithheldLaws.{counts-withheld}
 use Rattle.allocation.proofs.LastLaws.{file-short}
 use Rattle.files.specs.Moves.{sectorContent}
 use Rattle.files.specs.Spots.{kthSector}
@@ -48,19 +51,19 @@ module _ (v w : Volume) (start : LawfulVolume v) (h : History v w) where
   pub still-lawful : LawfulVolume w
   still-lawful = lawful-after v w start h
 
-  good : Good (w .books) (placesOf (w .books))
-  good = zero-good (w .books) (still-lawful .lawful)
+  good : GoodWith (withheldOver (seen w) (w .withheld)) (w .books) (placesOf (w .books))
+  good = zero-good (w .books) (w .withheld) (still-lawful .lawful) .books
 
   layout : Layout (placesOf (w .books)) (length (w .books))
   layout = good .layout
 
-  lawful : Lawful (placesOf (w .books)) (w .books)
+  lawful : Lawful (placesOf (w .books)) (w .books) (w .withheld)
   lawful = good .lawful
 
   bits : (s : ℕ) → seen w .bit s < 2
   bits s = bitAt-lt (w .books) (placesOf (w .books) .sectortable) s
 
-  -- ---- "each sector outside the system zones is free or belongs to one place of one file", "header runs are owned sectors of the file"
+  -- ---- "each sector outside the system zones is free, withheld, or one place of one file", "header runs are owned sectors of the file"
 
   -- a header's sector, by its place and by its pointer
   at-under : (f k s : ℕ) → HeaderAt w f k s → UnderHeader (seen w) f s
@@ -69,15 +72,18 @@ module _ (v w : Volume) (start : LawfulVolume v) (h : History v w) where
   under-at : (f s : ℕ) → UnderHeader (seen w) f s → (k : ℕ) × HeaderAt w f k s
   under-at f s u = (s - headerStart (seen w .table f), record { file = u .parent; place = omega (arith, u .from, u .to); here = omega (arith, u .from) })
 
-  pub free-or-owned : (s : ℕ) → 1024 ≤ s → s < 1024 * (seen w .zones - 1)
-      → (seen w .bit s ≡ 0) ⊎ (((f : ℕ) × (k : ℕ) × Belongs w f k s) ⊎ ((f : ℕ) × (k : ℕ) × HeaderAt w f k s))
-  free-or-owned s low high = elim (ℕ-discrete (seen w .bit s) 0) [
+  pub free-withheld-or-owned : (s : ℕ) → 1024 ≤ s → s < 1024 * (seen w .zones - 1)
+      → (seen w .bit s ≡ 0) ⊎ (Withheld (seen w) (w .withheld) s ⊎ (((f : ℕ) × (k : ℕ) × Belongs w f k s) ⊎ ((f : ℕ) × (k : ℕ) × HeaderAt w f k s)))
+  free-withheld-or-owned s low high = elim (ℕ-discrete (seen w .bit s) 0) [
     | yes z ↦ inl z
-    | no ne ↦ inr (⊎-elim
-        (λ u. (let q = under-place (placesOf (w .books)) (w .books) layout lawful (u .0) (u .1) s (u .2) in
-        inl (fileOf (u .0) (seen w .table (u .0)), q .1 .0, record { file = q .0; place = q .1 .1; here = q .1 .2 })))
-        (λ u. (let q = under-at (u .0) s (u .1) in inr (u .0, q .0, q .1)))
-        (set-owned (seen w) (lawful .r6) (lawful .r7) bits s high low (omega (arith, bits s)) refl))
+    | no ne ↦ inr (elim (decLt 0 (withheldOver (seen w) (w .withheld) s)) [
+      | yes some ↦ inl (counts-withheld (seen w) (w .withheld) s some)
+      | no none ↦ inr (⊎-elim
+          (λ u. (let q = under-place (placesOf (w .books)) (w .books) layout lawful (u .0) (u .1) s (u .2) in
+          inl (fileOf (u .0) (seen w .table (u .0)), q .1 .0, record { file = q .0; place = q .1 .1; here = q .1 .2 })))
+          (λ u. (let q = under-at (u .0) s (u .1) in inr (u .0, q .0, q .1)))
+          (set-owned (seen w) (lawful .r6) (lawful .r7) bits s high low (omega (arith, bits s)) (omega arith)))
+    ])
   ]
 
   -- not both
@@ -193,21 +199,21 @@ module _ (v w : Volume) (start : LawfulVolume v) (h : History v w) where
     twin = wrote-same w x still-lawful f at many swap input date d g other
 
     pub read-same : (position long : Amount) (exchange : Bool) (out : List ℕ) (r r' : Answer) (y y' : List ℕ)
-        → ReadOut (w .books) (w .body) g position long exchange out r y → ReadOut (x .books) (x .body) g position long exchange out r' y' → (r ≡ r') × (y ≡ y')
+        → ReadOut (w .books) (w .withheld) (w .body) g position long exchange out r y → ReadOut (x .books) (x .withheld) (x .body) g position long exchange out r' y' → (r ≡ r') × (y ≡ y')
     read-same position long exchange out r r' y y' a b = reads-same w x g twin position long exchange out r r' y y' a b
 
-    pub show-same : (k : ℕ) (y y' : List ℕ) → Shown (w .books) (w .body) g k y → Shown (x .books) (x .body) g k y' → y ≡ y'
+    pub show-same : (k : ℕ) (y y' : List ℕ) → Shown (w .books) (w .withheld) (w .body) g k y → Shown (x .books) (x .withheld) (x .body) g k y' → y ≡ y'
     show-same k y y' a b = shows-same w x g twin k y y' a b
 
-    pub show-header-same : (y y' : List ℕ) → HeaderShown (w .books) (w .body) g y → HeaderShown (x .books) (x .body) g y' → y ≡ y'
+    pub show-header-same : (y y' : List ℕ) → HeaderShown (w .books) (w .withheld) (w .body) g y → HeaderShown (x .books) (x .withheld) (x .body) g y' → y ≡ y'
     show-header-same y y' a b = headers-same w x g twin y y' a b
 
 -- ---- the bytes that all this speaks of are those that show and show header hand back
 
-pub shown-data : (w : Volume) (f k : ℕ) (part : List ℕ) (s : Shown (w .books) (w .body) f k part) → s .number ≡ 0 → part ≡ bytesAt w f k
+pub shown-data : (w : Volume) (f k : ℕ) (part : List ℕ) (s : Shown (w .books) (w .withheld) (w .body) f k part) → s .number ≡ 0 → part ≡ bytesAt w f k
 shown-data w f k part s z = s .bytes ∙ ap (λ (r : ℕ). bytesOf r (w .body) (kthSector (seen w) f k) 1) z
 
-pub shown-header : (w : Volume) (f : ℕ) (part : List ℕ) (s : HeaderShown (w .books) (w .body) f part) → s .number ≡ 0 → part ≡ headerOf w f
+pub shown-header : (w : Volume) (f : ℕ) (part : List ℕ) (s : HeaderShown (w .books) (w .withheld) (w .body) f part) → s .number ≡ 0 → part ≡ headerOf w f
 shown-header w f part s z = s .bytes ∙ ap (λ (r : ℕ). bytesOf r (w .body) (headerStart (seen w .table f)) (headerCount (seen w .table f))) z
 
 -- the j-th pointer of index table i
@@ -217,7 +223,7 @@ pointer b i j = let t = viewOf (placesOf b) b .table i in pointerAt t (baseOf i 
 -- ---- "temporary delete, recover and set protection change neither pointers nor data": data, since they put no bytes (`bytes-kept`); set protection
 -- leaves the body (`BooksOnly`), and of the body the two others write the id of the file's header alone (`markedBody`)
 
-module _ (v v' : Volume) (good : Good (v .books) (placesOf (v .books))) (id w : ℕ) (date : List ℕ) (i j : ℕ) (low : 1 ≤ i) (high : i ≤ seen v .indexes) where
+module _ (v v' : Volume) {extra : ℕ → ℕ} (good : GoodWith extra (v .books) (placesOf (v .books))) (id w : ℕ) (date : List ℕ) (i j : ℕ) (low : 1 ≤ i) (high : i ≤ seen v .indexes) where
   abbrev b : List ℕ
   b = v .books
 
@@ -225,13 +231,13 @@ module _ (v v' : Volume) (good : Good (v .books) (placesOf (v .books))) (id w : 
   b' = v' .books
 
   pub removed-pointers : Does (temporaryDelete id date) v v' → pointer b' i j ≡ pointer b i j
-  removed-pointers (r, d) = after-pointer r (removed (placesOf b) b id date) b b' id i j low high good (removed-keeps b (v .body) id date r b' (v' .body) (placesOf b) d good) (d .books)
-      (removed-restates b good id date r (v .body) (d .number))
+  removed-pointers (r, d) = after-pointer r (removed (placesOf b) b id date) b b' id i j low high good (removed-keeps b (v .withheld) (v .body) id date r b' (v' .body) (placesOf b) (d .promise) good) (d .promise .books)
+      (removed-restates b (v .withheld) (_, good) id date r (v .body) (d .promise .number))
 
   pub recovered-pointers : Does (recover id date) v v' → pointer b' i j ≡ pointer b i j
-  recovered-pointers (r, d) = after-pointer r (recovered (placesOf b) b id date) b b' id i j low high good (recovered-keeps b (v .body) id date r b' (v' .body) (placesOf b) d good) (d .books)
-      (recovered-restates b good id date r (v .body) (d .number))
+  recovered-pointers (r, d) = after-pointer r (recovered (placesOf b) b id date) b b' id i j low high good (recovered-keeps b (v .withheld) (v .body) id date r b' (v' .body) (placesOf b) (d .promise) good) (d .promise .books)
+      (recovered-restates b (v .withheld) (_, good) id date r (v .body) (d .promise .number))
 
   pub protected-pointers : Does (setProtection id w date) v v' → pointer b' i j ≡ pointer b i j
-  protected-pointers (r, d) = after-pointer r (protected (placesOf b) b id w date) b b' id i j low high good (protected-keeps b id w date r b' (placesOf b) (d .promise) good) (d .promise .books)
-      (protected-restates b good id date r w (d .promise .number))
+  protected-pointers (r, d) = after-pointer r (protected (placesOf b) b id w date) b b' id i j low high good (protected-keeps b (v .withheld) id w date r b' (placesOf b) (d .promise) good) (d .promise .books)
+      (protected-restates b (v .withheld) (_, good) id date r w (d .promise .number))

@@ -10,7 +10,7 @@ use Rattle.field.specs.Kept.{Kept}
 use Rattle.field.proofs.BitLaws.{bitAt-lt}
 use Rattle.field.proofs.NumberLaws.{getD-part}
 use Rattle.tables.specs.declared.places.Places.{Places}
-use Rattle.tables.specs.Books.{Good}
+use Rattle.tables.specs.Books.{GoodWith}
 use Rattle.tables.specs.Indexes.{headerStart, headerCount}
 use Rattle.tables.specs.Places.{placesOf}
 use Rattle.tables.specs.Views.{viewOf, Under, UnderHeader, Parent}
@@ -50,7 +50,7 @@ run-past-id x y a n k =
 
 -- ---- sectors
 
-module _ (v : Volume) (g : Good (v .books) (placesOf (v .books))) where
+module _ (v : Volume) {extra : ℕ → ℕ} (g : GoodWith extra (v .books) (placesOf (v .books))) where
   bits : (s : ℕ) → seen v .bit s < 2
   bits = bitAt-lt (v .books) (placesOf (v .books) .sectortable)
 

@@ -8,13 +8,14 @@ use Rattle.tables.specs.Places.{placesOf}
 use Rattle.tables.specs.Rules.R4.{FreeChain}
 use Rattle.tables.specs.Rules.R8.{fileSectors}
 use Rattle.tables.specs.Views.{View, Parent, walk, next}
+use Rattle.tables.specs.Withheld.{withheldOver}
 use Rattle.tables.proofs.ChainLaws.{walk-once}
 use Rattle.files.specs.Moves.{sectorContent}
 use Rattle.files.specs.Spots.{kthSector}
 use Rattle.files.proofs.UntouchedLaws.{other-parent, other-places}
 use Rattle.tables.proofs.GateLaws.{zero-good}
 use Rattle.histories.specs.History.{Volume, seen, LawfulVolume, Request, Does, RequestStep, History, none, then, namedBy, Belongs, bytesAt, Deletes, SparedIn, SameHeader, HeaderLeftIn}
-use Rattle.histories.proofs.StepFrame.{step-lawful, step-untouched, step-stands, step-bytes, step-own, step-header}
+use Rattle.histories.proofs.StepFrame.{step-lawful, step-over, step-untouched, step-stands, step-bytes, step-own, step-header}
 
 -- ---- steps
 
@@ -26,7 +27,7 @@ module _ (v w : Volume) (lawful : LawfulVolume v) (q : Request) (d : Does q v w)
       let p = placesOf (v .books) in
       let b = v .books in
       let ne = u .2 g parent other in
-      let good = zero-good (v .books) (lawful .lawful) in
+      let good = zero-good (v .books) (v .withheld) (lawful .lawful) .books in
       let stays = other-places p b (good .layout) (good .lawful) (seen w) (u .0) (u .1) g parent ne in
       let stands = other-parent p b (good .layout) (good .lawful) (seen w) (u .0) (u .1) g parent ne in
       step-bytes v w lawful q d g k (kthSector (seen w) g k) (record { file = stands; place = omega (arith, stays .most); here = refl })
@@ -43,6 +44,11 @@ step-place v w lawful s f k n here kept =
 pub lawful-after : (v w : Volume) → LawfulVolume v → History v w → LawfulVolume w
 lawful-after v w start (none e) = rw e start
 lawful-after v w start (then {v = x} h s) = step-lawful x w (lawful-after v x start h) (s .request) (s .does)
+
+-- the same sectors are withheld throughout
+pub withheld-after : (v w : Volume) → LawfulVolume v → History v w → (s : ℕ) → withheldOver (seen w) (w .withheld) s ≡ withheldOver (seen v) (v .withheld) s
+withheld-after v w start (none e) s = rw e
+withheld-after v w start (then {v = x} h st) s = step-over x w (lawful-after v x start h) (st .request) (st .does) s ∙ withheld-after v x start h s
 
 -- a place of a file that every step spares keeps its sector and its bytes
 pub spared-stays : (v w : Volume) → LawfulVolume v → (f k n : ℕ) → Belongs v f k n → (h : History v w) → SparedIn h f k

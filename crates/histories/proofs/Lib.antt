@@ -11,6 +11,7 @@ pub mod HistoryLaws
 pub mod AlikeLaws
 pub mod ReadBack
 pub mod DemandThree
+pub mod WornSectors
 pub mod CreateAnswers
 pub mod CardBooks
 pub mod BenchCards

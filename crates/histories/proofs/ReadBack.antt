@@ -8,14 +8,16 @@ use native.Mathlib.Decide.{ℕ-discrete}
 use native.Mathlib.Omega.{arith}
 use lib.ListN.{length, take}
 use Rattle.tables.specs.declared.places.Places.{Places}
-use Rattle.tables.specs.Books.{Good, bookTests}
+use Rattle.tables.specs.Books.{Good, GoodWith, bookTests}
 use Rattle.tables.specs.Gates.{Gate}
 use Rattle.tables.specs.Indexes.{tableAt, lengthOf, attributeOf, variableBit, deletedBit}
-use Rattle.tables.specs.Lawful.{Lawful}
+use Rattle.tables.specs.Lawful.{LawfulSome}
 use Rattle.tables.specs.Places.{placesOf, Layout}
 use Rattle.tables.specs.Sector1.{flagOf}
 use Rattle.tables.specs.Views.{viewOf, Parent}
-use Rattle.tables.proofs.GateLaws.{gate-passes, gate-rest, gate-head, gate-front}
+use Rattle.tables.specs.Withheld.{withheldOver}
+use Rattle.tables.proofs.GateLaws.{gate-passes, gate-rest, gate-head, gate-front, zero-good}
+use Rattle.tables.proofs.WithheldLaws.{good-kept}
 use Rattle.files.specs.Moves.{filled, fetched, Movable}
 use Rattle.files.proofs.MoveLaws.{read-back}
 use Rattle.requests.specs.declared.amount.Amount.{Amount}
@@ -34,13 +36,14 @@ use Rattle.requests.proofs.ArgumentLaws.{argument-fine}
 use Rattle.requests.proofs.NamedLaws.{state-fine, usable-active, usable-fine}
 use Rattle.requests.proofs.StampLaws.{same-counted, put-fields}
 use Rattle.requests.proofs.ReadLaws.{amount-wanted, read-goes, read-fine, read-done, read-one}
-use Rattle.requests.proofs.WriteLaws.{asked-variable, Grown, grown-is, settle-is, write-allows, write-good, write-parent, write-within, write-lack}
+use Rattle.requests.proofs.WriteLaws.{asked-variable, Grown, grown-is, settle-is, write-allows, write-parent, write-within, write-lack}
+use Rattle.requests.proofs.TypesKept.{wrote-types}
 use Rattle.requests.proofs.WriteKeeps.{some-written, grown-good, settles, written-flag, wrote-asks, wrote-keeps}
 
 -- ---- the write, done, for some bytes
 
-module _ (b body : List ℕ) (id : ℕ) (position long : Amount) (x : Bool) (input date : List ℕ) (r : Answer) (b' body' : List ℕ)
-    (w : Wrote b body id position long x input date r b' body') (done : numberOf r ≡ 0) (some : wholeSectors (amountValue long) ≢ 0) where
+module _ (b withheld body : List ℕ) (id : ℕ) (position long : Amount) (x : Bool) (input date : List ℕ) (r : Answer) (b' body' : List ℕ)
+    (w : Wrote b withheld body id position long x input date r b' body') (done : numberOf r ≡ 0) (some : wholeSectors (amountValue long) ≢ 0) where
   abbrev at : ℕ
   at = amountValue position
 
@@ -56,33 +59,42 @@ module _ (b body : List ℕ) (id : ℕ) (position long : Amount) (x : Bool) (inp
   abbrev b₁ : List ℕ
   b₁ = grownTo b id (askedLength b id at n) date
 
-  gate : Gate (writeTests b body id position long (length input) date) 0
+  gate : Gate (writeTests b withheld body id position long (length input) date) 0
   gate = rw done at (w .number)
 
-  good : Good b p
-  good = write-good b body id position long (length input) date 0 gate refl
+  front : Gate (useTests b withheld) 0
+  unfolding writeTests argumentTests
+  front = gate-front (useTests b withheld) _ (gate-front (argumentTests b withheld (WriteAllowed position long (length input) date)) _ gate)
+
+  listed : Good b withheld p
+  unfolding useTests
+  listed = zero-good b withheld (gate-front (bookTests b withheld) _ front)
+
+  abbrev extra : ℕ → ℕ
+  extra = withheldOver (viewOf p b) withheld
+
+  good : GoodWith extra b p
+  good = listed .books
 
   parent : Parent (viewOf p b) id
-  parent = write-parent b body id position long (length input) date 0 gate refl
+  parent = write-parent b withheld body id position long (length input) date 0 gate refl
 
   allowed : WriteAllowed position long (length input) date
-  allowed = write-allows b body id position long (length input) date 0 gate refl
+  allowed = write-allows b withheld body id position long (length input) date 0 gate refl
 
   lack : Gate (lackTests b id (askedLength b id at n)) 0
-  lack = write-lack b body id position long (length input) date 0 gate refl
+  lack = write-lack b withheld body id position long (length input) date 0 gate refl
 
   -- the flag is not 0
   flag : flagOf b ≢ 0
-  unfolding writeTests argumentTests useTests
-  flag =
-      let front = gate-front (useTests b) _ (gate-front (argumentTests b (WriteAllowed position long (length input) date)) _ gate) in
-      gate-head 5 (flagOf b ≢ 0) [] (gate-rest (bookTests b) _ front) .0
+  unfolding useTests
+  flag = gate-head 5 (flagOf b ≢ 0) [] (gate-rest (bookTests b withheld) _ front) .0
 
   -- the file is active
   active : deletedBit a ≡ 0
   unfolding writeTests moveTests
   active =
-      let rest = gate-rest (argumentTests b (WriteAllowed position long (length input) date)) _ gate in
+      let rest = gate-rest (argumentTests b withheld (WriteAllowed position long (length input) date)) _ gate in
       usable-active 4 b id (gate-front (usableTests 4 b id) _ (gate-head 15 (BodySized b body) _ rest .1)) .1
 
   longer : Grown b id (askedLength b id at n) b₁
@@ -94,14 +106,14 @@ module _ (b body : List ℕ) (id : ℕ) (position long : Amount) (x : Bool) (inp
   books-settled : b' ≡ settle b₁ id date
   books-settled = books-are ∙ some-written b id at n date some
 
-  kept : Good b' p × (length body' ≡ length body)
-  kept = wrote-keeps b body id position long x input date r b' body' p good w
+  kept : GoodWith extra b' p × (length body' ≡ length body)
+  kept = wrote-keeps b withheld body id position long x input date r b' body' p good w
 
   same : p ≡ placesOf b'
   same = kept .0 .places
 
-  asked : Layout p (length b') × (Lawful p b' × Movable (viewOf p b') id (at / 1024) (n / 1024) (length input) (length body))
-  asked = wrote-asks b body id position long (length input) date 0 gate refl at (amountValue long) n refl refl refl b' books-are p same some
+  asked : Layout p (length b') × (LawfulSome p b' × Movable (viewOf p b') id (at / 1024) (n / 1024) (length input) (length body))
+  asked = wrote-asks b withheld body id position long (length input) date 0 gate refl at (amountValue long) n refl refl refl b' books-are p same some
 
   moves : Movable (viewOf p b') id (at / 1024) (n / 1024) (length input) (length body)
   moves = asked .1 .1
@@ -125,7 +137,7 @@ module _ (b body : List ℕ) (id : ℕ) (position long : Amount) (x : Bool) (inp
   -- the bytes written lie before the end
   end' : at + n ≤ endOf b' id
   end' =
-      let within = write-within b body id position long (length input) date 0 gate refl in
+      let within = write-within b withheld body id position long (length input) date 0 gate refl in
       elim (ℕ-discrete (variableBit a) 1) [
         | yes e ↦ omega (arith, asked-variable b id at n some e, length', longer .long')
         | no nv ↦ omega (arith, within .fixed (omega arith), length', longer .more)
@@ -137,8 +149,8 @@ module _ (b body : List ℕ) (id : ℕ) (position long : Amount) (x : Bool) (inp
       let here : body' ≡ filled (viewOf (placesOf b') b') id (at / 1024) x input body (n / 1024) = rw books-are (rw done at (w .body'')) in
       here ∙ ap (λ (q : Places). filled (viewOf q b') id (at / 1024) x input body (n / 1024)) (sym same)
 
-  used : Gate (useTests b') 0
-  used = use-fine b' p (flagOf b') (kept .0) refl (λ e. flag (sym (written-flag b id at n date good parent lack (allowed .date')) ∙ sym (ap flagOf books-are) ∙ e))
+  used : Gate (useTests b' withheld) 0
+  used = use-fine b' withheld p (flagOf b') (good-kept b b' withheld p listed (kept .0) (wrote-types b withheld good body id position long x input date r b' body' w)) refl (λ e. flag (sym (written-flag b id at n date good parent lack (allowed .date')) ∙ sym (ap flagOf books-are) ∙ e))
 
   -- ---- the read
 
@@ -158,29 +170,29 @@ module _ (b body : List ℕ) (id : ℕ) (position long : Amount) (x : Bool) (inp
         let same' : attributeOf (fileBytes b' id) ≡ attributeOf t' = ap (λ (q : Places). attributeOf (tableAt q b' id)) (sym same) in
         usable-fine 8 b' id 0 named refl (ap (λ (k : ℕ). k / 8 % 2) same' ∙ ap (λ (k : ℕ). k % 2) free ∙ readable)
 
-    number : Gate (readTests b' body' id position long (length out)) 0
+    number : Gate (readTests b' withheld body' id position long (length out)) 0
     number =
         let m = allowed .move in
         let fine : MoveAllowed position long (length out) = record { position' = m .position'; sector = m .sector; long' = m .long'; buffer = fits } in
-        read-goes b' body' id position long (length out) true 0 fine (argument-fine b' true 0 used refl refl) 0 refl
+        read-goes b' withheld body' id position long (length out) true 0 fine (argument-fine b' withheld true 0 used refl refl) 0 refl
         (gate-passes 15 (BodySized b' body') _ 0 sized (read-fine b' id position 0 usable refl at (endOf b' id) refl refl (omega (arith, end'))))
 
-    reads : ReadOut b' body' id position long x out (Done n) (fetched (viewOf p b') id (at / 1024) x body' out (n / 1024))
+    reads : ReadOut b' withheld body' id position long x out (Done n) (fetched (viewOf p b') id (at / 1024) x body' out (n / 1024))
     reads =
-        read-done b' body' id position long x out 0 at (amountValue long) n p _ number refl same refl refl
+        read-done b' withheld body' id position long x out 0 at (amountValue long) n p _ number refl same refl refl
         (amount-wanted b' id at (amountValue long) n (endOf b' id) refl refl (omega (arith, end'))) refl
 
     back : take n (fetched (viewOf p b') id (at / 1024) x body' out (n / 1024)) ≡ take n input
     back =
         let whole : 1024 * (n / 1024) ≡ n = omega arith in
-        rw (← body-is, whole) at (read-back p b' (asked .0) (asked .1 .0) id (at / 1024) (n / 1024) x input body out moves (omega arith))
+        rw (← body-is, whole) at (read-back p b' (asked .0) (asked .1 .0 .1) id (at / 1024) (n / 1024) x input body out moves (omega arith))
 
 -- a write that is done, of some bytes, and then a read of the same file, position, length and exchange: it is done, moves as many bytes,
 -- and they are the input's
-pub read-after-write : (b body : List ℕ) (id : ℕ) (position long : Amount) (x : Bool) (input date : List ℕ) (r : Answer) (b' body' : List ℕ)
-    → Wrote b body id position long x input date r b' body' → numberOf r ≡ 0 → wholeSectors (amountValue long) ≢ 0 → Unprotected 8 b id
-    → (out : List ℕ) → wholeSectors (amountValue long) ≤ length out → (s : Answer) (out' : List ℕ) → ReadOut b' body' id position long x out s out'
+pub read-after-write : (b withheld body : List ℕ) (id : ℕ) (position long : Amount) (x : Bool) (input date : List ℕ) (r : Answer) (b' body' : List ℕ)
+    → Wrote b withheld body id position long x input date r b' body' → numberOf r ≡ 0 → wholeSectors (amountValue long) ≢ 0 → Unprotected 8 b id
+    → (out : List ℕ) → wholeSectors (amountValue long) ≤ length out → (s : Answer) (out' : List ℕ) → ReadOut b' withheld body' id position long x out s out'
     → (s ≡ Done (wholeSectors (amountValue long))) × (take (wholeSectors (amountValue long)) out' ≡ take (wholeSectors (amountValue long)) input)
-read-after-write b body id position long x input date r b' body' w done some readable out fits s out' h =
-    let e = read-one b' body' id position long x out s (Done (wholeSectors (amountValue long))) out' _ h (reads b body id position long x input date r b' body' w done some readable out fits) in
-    (e .0, ap (take (wholeSectors (amountValue long))) (e .1) ∙ back b body id position long x input date r b' body' w done some readable out fits)
+read-after-write b withheld body id position long x input date r b' body' w done some readable out fits s out' h =
+    let e = read-one b' withheld body' id position long x out s (Done (wholeSectors (amountValue long))) out' _ h (reads b withheld body id position long x input date r b' body' w done some readable out fits) in
+    (e .0, ap (take (wholeSectors (amountValue long))) (e .1) ∙ back b withheld body id position long x input date r b' body' w done some readable out fits)

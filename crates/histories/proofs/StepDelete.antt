@@ -7,7 +7,7 @@ use Prim.Native.Nat.{ℕ, zero, suc, _≤_}
 use native.Mathlib.Decide.{decLt}
 use native.Mathlib.Omega.{arith}
 use lib.ListN.{drop}
-use Rattle.tables.specs.Books.{Good}
+use Rattle.tables.specs.Books.{GoodWith}
 use Rattle.tables.specs.Indexes.{headerStart, headerCount}
 use Rattle.tables.specs.Places.{placesOf}
 use Rattle.tables.specs.Views.{UnderHeader, Parent}
@@ -20,7 +20,7 @@ use Rattle.requests.specs.State.{markedBody}
 use Rattle.histories.specs.History.{Volume, seen, Belongs}
 use Rattle.histories.proofs.HeaderBody.{run-past-id, data-inside, data-apart, head-inside, headers-apart}
 
-module _ (v : Volume) (g : Good (v .books) (placesOf (v .books))) (id w : ℕ) where
+module _ (v : Volume) {extra : ℕ → ℕ} (g : GoodWith extra (v .books) (placesOf (v .books))) (id w : ℕ) where
   -- a sector that is none of the header's
   pub marked-stays : Parent (seen v) id → (body : List ℕ) (s : ℕ) → 1024 ≤ s → (UnderHeader (seen v) id s → ⊥) → sectorContent (headerMarked (seen v) id w body) s ≡ sectorContent body s
   marked-stays parent body s low out =

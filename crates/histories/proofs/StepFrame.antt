@@ -1,21 +1,27 @@
 -- What every step keeps: a lawful volume, and of files their tables, places, bytes and headers.
-use mathlib.Core.Path.{_≡_, sym, ap, subst, _∙_}
+use mathlib.Core.Path.{_≡_, refl, sym, ap, subst, _∙_}
 use mathlib.Core.Logic.{_≢_}
 use mathlib.Core.List.{List}
 use Prim.Native.Nat.{ℕ, _-_, _*_}
 use Rattle.tables.specs.declared.places.Places.{Places}
+use Rattle.tables.specs.Books.{Good}
 use Rattle.tables.specs.Places.{placesOf}
 use Rattle.tables.specs.Views.{viewOf, Parent}
+use Rattle.tables.specs.Withheld.{withheldOver, KeepsTypes}
 use Rattle.files.specs.Moves.{sectorContent}
 use Rattle.files.specs.Unchanged.{Untouched, SamePlaces}
 use Rattle.tables.proofs.GateLaws.{zero-good, good-zero}
+use Rattle.tables.proofs.WithheldLaws.{kept-over, good-kept}
 use Rattle.histories.specs.History.{Volume, seen, LawfulVolume, Request, Does, namedBy, Belongs, headerOf, PutsIn, Deletes, PutsHeaderIn, SameHeader}
 use Rattle.histories.proofs.StepLeaves.{Leaves}
 use Rattle.histories.proofs.StepEffects.{Effect, step-effect}
 
 module _ (v v' : Volume) (lawful : LawfulVolume v) (q : Request) (d : Does q v v') where
-  effect : Effect v v' (namedBy q) (Deletes v v' q d) (PutsIn v v' q d) (PutsHeaderIn v v' q d)
-  effect = step-effect q v v' (zero-good (v .books) (lawful .lawful)) d
+  good : Good (v .books) (v .withheld) (placesOf (v .books))
+  good = zero-good (v .books) (v .withheld) (lawful .lawful)
+
+  effect : Effect (withheldOver (seen v) (v .withheld)) v v' (namedBy q) (Deletes v v' q d) (PutsIn v v' q d) (PutsHeaderIn v v' q d)
+  effect = step-effect q v v' (good .books) d
 
   leaves : Leaves (v .books) (v' .books) (namedBy q) (Deletes v v' q d)
   leaves = effect .leaves
@@ -29,9 +35,23 @@ module _ (v v' : Volume) (lawful : LawfulVolume v) (q : Request) (d : Does q v v
 
   pub step-lawful : LawfulVolume v'
   step-lawful = record {
-    lawful = good-zero (v' .books) (placesOf (v .books)) (effect .good);
+    lawful = rw (effect .list) (good-zero (v' .books) (v .withheld) (placesOf (v .books)) (good-kept (v .books) (v' .books) (v .withheld) (placesOf (v .books)) good (effect .good) (effect .types)));
     sized = effect .long ∙ lawful .sized ∙ ap (λ (p : Places). 1048576 * (p .zones - 2)) places;
   }
+
+  -- so does the list of withheld blocks, and the type of each of their zones
+  pub step-list : v' .withheld ≡ v .withheld
+  step-list = effect .list
+
+  pub step-types : KeepsTypes (withheldOver (seen v) (v .withheld)) (seen v) (seen v')
+  step-types = subst (λ (p : Places). KeepsTypes (withheldOver (seen v) (v .withheld)) (seen v) (viewOf p (v' .books))) places (effect .types)
+
+  -- the same sectors are withheld
+  pub step-over : (s : ℕ) → withheldOver (seen v') (v' .withheld) s ≡ withheldOver (seen v) (v .withheld) s
+  step-over s =
+      let here : withheldOver (viewOf (placesOf (v .books)) (v' .books)) (v .withheld) s ≡ withheldOver (seen v) (v .withheld) s
+      = kept-over (seen v) (viewOf (placesOf (v .books)) (v' .books)) (v .withheld) refl (good .list) (good .books .lawful .r2) (effect .types) s in
+      rw (effect .list) (subst (λ (p : Places). withheldOver (viewOf p (v' .books)) (v .withheld) s ≡ withheldOver (seen v) (v .withheld) s) places here)
 
   -- of the files that stand, only the named one's tables may change; a new file is none of them
   pub step-untouched : (x : ℕ) × Untouched (seen v) (seen v') x × ((g : ℕ) → Parent (seen v) g → g ≢ namedBy q → g ≢ x)

@@ -7,7 +7,7 @@ use native.Mathlib.Omega.{arith}
 use lib.ListN.{length}
 use borrow.Author.Tests.{lt-ltb, le-ltb}
 use Rattle.tables.specs.declared.counts.Chosen.{Chosen}
-use Rattle.tables.specs.Books.{Good}
+use Rattle.tables.specs.Books.{GoodWith}
 use Rattle.tables.specs.Gates.{Gate}
 use Rattle.tables.specs.Indexes.{lengthOf}
 use Rattle.tables.specs.Places.{placesOf}
@@ -35,24 +35,24 @@ use Rattle.histories.proofs.StepLeaves.{Leaves, leaves-at, leaves-new, 
 
 -- ---- a new file
 
-module _ (b : List ℕ) (g : Good b (placesOf b)) (gone : ℕ → Type 0) where
-  creates-leaves : (P : Type 0) (counts : List ℕ) (n : New) (r : Created) (b' : List ℕ) → (P → NewLawful n counts × (length counts ≡ 6)) → Creates (argumentTests b P) b counts n r b' → Leaves b b' 0 gone
+module _ (b withheld : List ℕ) {extra : ℕ → ℕ} (g : GoodWith extra b (placesOf b)) (gone : ℕ → Type 0) where
+  creates-leaves : (P : Type 0) (counts : List ℕ) (n : New) (r : Created) (b' : List ℕ) → (P → NewLawful n counts × (length counts ≡ 6)) → Creates (argumentTests b withheld P) b counts n r b' → Leaves b b' 0 gone
   creates-leaves P counts n r b' new h =
       leaves-done b g 0 gone (numberOf r) (created (placesOf b) b n counts) b' (h .books) (λ z.
-      (let a = creates-asks b P counts n r b' g new h z in
+      (let a = creates-asks b withheld P counts n r b' g new h z in
       let l = a .0 in
       leaves-new b g 0 gone (created (placesOf b) b n counts) (firstFreeOf b) (created-untouched (placesOf b) b n counts (a .1) (l .name .most) (l .date .long) (l .weights))
       (created-new (placesOf b) b n counts (a .1) (l .name .most) (l .date .long) (l .weights))))
 
-  pub fixed-leaves : (name : List ℕ) (size : Amount) (types : Chosen) (kind : ℕ) (date : List ℕ) (r : Created) (b' : List ℕ) → CreatedFixed b name size types kind date r b' → Leaves b b' 0 gone
+  pub fixed-leaves : (name : List ℕ) (size : Amount) (types : Chosen) (kind : ℕ) (date : List ℕ) (r : Created) (b' : List ℕ) → CreatedFixed b withheld name size types kind date r b' → Leaves b b' 0 gone
   fixed-leaves name size types kind date r b' = creates-leaves _ _ _ r b' (fixed-lawful name size types kind date)
 
-  pub variable-leaves : (name : List ℕ) (cell : Amount) (kind : ℕ) (date : List ℕ) (r : Created) (b' : List ℕ) → CreatedVariable b name cell kind date r b' → Leaves b b' 0 gone
+  pub variable-leaves : (name : List ℕ) (cell : Amount) (kind : ℕ) (date : List ℕ) (r : Created) (b' : List ℕ) → CreatedVariable b withheld name cell kind date r b' → Leaves b b' 0 gone
   variable-leaves name cell kind date r b' = creates-leaves _ _ _ r b' (variable-lawful name cell kind date)
 
 -- ---- a file that grows
 
-module _ (b : List ℕ) (g : Good b (placesOf b)) (id long : ℕ) (date : List ℕ) (parent : Parent (viewOf (placesOf b) b) id) (room : Gate (lackTests b id long) 0) (six : length date ≡ 6) where
+module _ (b : List ℕ) {extra : ℕ → ℕ} (g : GoodWith extra b (placesOf b)) (id long : ℕ) (date : List ℕ) (parent : Parent (viewOf (placesOf b) b) id) (room : Gate (lackTests b id long) 0) (six : length date ≡ 6) where
   pub longer-frame : Untouched (viewOf (placesOf b) b) (viewOf (placesOf b) (grownTo b id long date)) id × SamePlaces (viewOf (placesOf b) b) (viewOf (placesOf b) (grownTo b id long date)) id
       × HeaderKept (viewOf (placesOf b) b) (viewOf (placesOf b) (grownTo b id long date)) id
   unfolding grownTo
@@ -69,19 +69,19 @@ module _ (b : List ℕ) (g : Good b (placesOf b)) (id long : ℕ) (date : List �
         | no nl ↦ rw (le-ltb (lengthOf (fileBytes b id)) long (omega arith)) (untouched-refl (viewOf p b) id, places-refl (viewOf p b) id, header-refl (viewOf p b) id)
       ]
 
-module _ (b : List ℕ) (g : Good b (placesOf b)) (id : ℕ) (long : Amount) (date : List ℕ) (r : ℕ) (b' : List ℕ) (h : Grew b id long date r b') where
+module _ (b withheld : List ℕ) {extra : ℕ → ℕ} (g : GoodWith extra b (placesOf b)) (id : ℕ) (long : Amount) (date : List ℕ) (r : ℕ) (b' : List ℕ) (h : Grew b withheld id long date r b') where
   abbrev new : List ℕ
   new = grownTo b id (amountValue long) date
 
   module _ (e : r ≡ 0) where
     parent : Parent (viewOf (placesOf b) b) id
-    parent = grow-parent b id long date r (h .number) e
+    parent = grow-parent b withheld id long date r (h .number) e
 
     room : Gate (lackTests b id (amountValue long)) 0
-    room = grow-room b id long date r (h .number) e (amountValue long) refl
+    room = grow-room b withheld id long date r (h .number) e (amountValue long) refl
 
     six : length date ≡ 6
-    six = grow-date b id long date r (h .number) e
+    six = grow-date b withheld id long date r (h .number) e
 
     frame : Untouched (viewOf (placesOf b) b) (viewOf (placesOf b) new) id × SamePlaces (viewOf (placesOf b) b) (viewOf (placesOf b) new) id
         × HeaderKept (viewOf (placesOf b) b) (viewOf (placesOf b) new) id

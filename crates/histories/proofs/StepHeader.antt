@@ -10,7 +10,7 @@ use lib.ListN.{length}
 use Rattle.field.specs.Kept.{Kept}
 use Rattle.field.specs.Parts.{over}
 use Rattle.tables.specs.declared.places.Places.{Places}
-use Rattle.tables.specs.Books.{Good}
+use Rattle.tables.specs.Books.{GoodWith}
 use Rattle.tables.specs.Indexes.{tableAt, headerStart, headerCount}
 use Rattle.tables.specs.Places.{placesOf}
 use Rattle.tables.specs.Views.{viewOf, Parent, UnderHeader}
@@ -36,8 +36,8 @@ use Rattle.histories.proofs.StepDelete.{marked-stays}
 use Rattle.histories.proofs.StepLeaves.{Leaves, leaves-at, leaves-done, header-done, stood-done}
 use Rattle.histories.proofs.StepState.{stated-stood}
 
-module _ (v v' : Volume) (g : Good (v .books) (placesOf (v .books))) (good : Good (v' .books) (placesOf (v .books))) (id : ℕ) (content date : List ℕ) (r : ℕ)
-    (h : HeaderPlaced (v .books) (v .body) id content date r (v' .books) (v' .body)) where
+module _ (v v' : Volume) {extra : ℕ → ℕ} (g : GoodWith extra (v .books) (placesOf (v .books))) (good : GoodWith extra (v' .books) (placesOf (v .books))) (id : ℕ) (content date : List ℕ) (r : ℕ)
+    (h : HeaderPlaced (v .books) (v .withheld) (v .body) id content date r (v' .books) (v' .body)) where
   abbrev b : List ℕ
   b = v .books
 
@@ -54,35 +54,35 @@ module _ (v v' : Volume) (g : Good (v .books) (placesOf (v .books))) (good : Goo
 
   module _ (done : r ≡ 0) where
     here : Parent (seen v) id
-    here = placed-file b (v .body) id (length content) date r (h .number) done
+    here = placed-file b (v .withheld) (v .body) id (length content) date r (h .number) done
 
     books-are : v' .books ≡ new
-    books-are = header-placed-is b (v .body) id content date r (v' .books) (v' .body) h done
+    books-are = header-placed-is b (v .withheld) (v .body) id content date r (v' .books) (v' .body) h done
 
     count : (1 ≤ n) × (n ≤ 32)
-    count = placed-count b (v .body) id (length content) date r (h .number) done
+    count = placed-count b (v .withheld) (v .body) id (length content) date r (h .number) done
 
     room : headerPlace (seen v) n .zone .0 < p .zones
-    room = placed-high b (v .body) id (length content) date r (h .number) done
+    room = placed-high b (v .withheld) (v .body) id (length content) date r (h .number) done
 
     -- the header pointer, then the dates
     restated : Restated (viewOf p (headed p b id n)) (viewOf p new) id
-    restated = header-placed-restates b (v .body) id content date r (h .number) done .1
+    restated = header-placed-restates b (v .withheld) (v .body) id content date r (h .number) done .1
 
     pointed : Kept (tableAt p b id) (tableAt p (headed p b id n) id) 58 6
     pointed = rw (headed-table p b (g .layout) (g .lawful) id here n (count .0) (count .1) room) (kept-pointer (tableAt p b id) 58 (newHeader p b n))
 
     stood-then : (f : ℕ) → Parent (viewOf p (v' .books)) f → Parent (viewOf p b) f × SamePlaces (viewOf p (v' .books)) (viewOf p b) f
     stood-then =
-        stated-stood p b (v' .books) good id here (header-placed-untouched b (v .body) id content date r (h .number) done (v' .books) books-are)
+        stated-stood p b (v' .books) good id here (header-placed-untouched b (v .withheld) (v .body) id content date r (h .number) done (v' .books) books-are)
         (λ j lo hi ne. rw books-are (restated .there j lo hi ne ∙ headed-others p b (g .layout) (g .lawful) id here n (count .0) (count .1) room j lo hi ne))
         (λ o l. rw books-are (restated .here .out o (inl (omega arith)) ∙ pointed .out o (inl (omega arith))))
         (λ o l. rw books-are (restated .here .out o (inr (omega arith)) ∙ pointed .out o (inr (omega arith))))
 
   pub placed-leaves : (gone : ℕ → Type 0) → Leaves (v .books) (v' .books) id gone
   placed-leaves gone = leaves-done b g id gone r new (v' .books) (h .books) (λ e.
-      leaves-at b g id gone new id (header-placed-untouched b (v .body) id content date r (h .number) e new refl) (λ f stands ne. ne)
-      (λ stands kept. (header-placed-parent b (v .body) id content date r (h .number) e new refl, header-placed-places b (v .body) id content date r (h .number) e new refl)))
+      leaves-at b g id gone new id (header-placed-untouched b (v .withheld) (v .body) id content date r (h .number) e new refl) (λ f stands ne. ne)
+      (λ stands kept. (header-placed-parent b (v .withheld) (v .body) id content date r (h .number) e new refl, header-placed-places b (v .withheld) (v .body) id content date r (h .number) e new refl)))
 
   pub placed-stood : (f : ℕ) → Parent (viewOf (placesOf (v .books)) (v' .books)) f → Parent (seen v) f × SamePlaces (viewOf (placesOf (v .books)) (v' .books)) (seen v) f
   placed-stood = stood-done b r new (v' .books) (h .books) stood-then
@@ -109,7 +109,7 @@ module _ (v v' : Volume) (g : Good (v .books) (placesOf (v .books))) (good : Goo
     body-is = rw done at (h .body'')
 
     inside : (1024 ≤ runStart k) × (bodyPlace (runStart k) + 1024 * n ≤ length (v .body))
-    inside = placed-inside b (v .body) id (length content) date r (h .number) done
+    inside = placed-inside b (v .withheld) (v .body) id (length content) date r (h .number) done
 
     free : RunFree (seen v) n k
     free = header-free (seen v) n (g .lawful .r2) (g .lawful .r3) (count done .1) (room done)
@@ -142,7 +142,7 @@ module _ (v v' : Volume) (g : Good (v .books) (placesOf (v .books))) (good : Goo
     place-is : (headerStart (seen v' .table id) ≡ runStart k) × (headerCount (seen v' .table id) ≡ n)
     place-is =
         subst (λ (q : Places). (headerStart (tableAt q (v' .books) id) ≡ runStart k) × (headerCount (tableAt q (v' .books) id) ≡ n)) (good .places)
-        (header-placed-start b (v .body) id content date r (h .number) done (v' .books) (books-are done), header-placed-count b (v .body) id content date r (h .number) done (v' .books) (books-are done))
+        (header-placed-start b (v .withheld) (v .body) id content date r (h .number) done (v' .books) (books-are done), header-placed-count b (v .withheld) (v .body) id content date r (h .number) done (v' .books) (books-are done))
 
     header-is : headerOf v' id ≡ headerBytes id content
     header-is = ap₂ (λ (x y : ℕ). sectorsContent (v' .body) x y) (place-is .0) (place-is .1) ∙ run-is
@@ -150,7 +150,7 @@ module _ (v v' : Volume) (g : Good (v .books) (placesOf (v .books))) (good : Goo
     parent-is : Parent (seen v') id
     parent-is =
         subst (λ (q : Places). Parent (viewOf q (v' .books)) id) (good .places)
-        (header-placed-parent b (v .body) id content date r (h .number) done (v' .books) (books-are done))
+        (header-placed-parent b (v .withheld) (v .body) id content date r (h .number) done (v' .books) (books-are done))
 
   -- a file's sector holds what it held
   pub placed-data : (f k s : ℕ) → Belongs v f k s → sectorContent (v' .body) s ≡ sectorContent (v .body) s

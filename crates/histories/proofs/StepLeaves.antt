@@ -8,7 +8,7 @@ use native.Mathlib.Decide.{ℕ-discrete}
 use native.Mathlib.Omega.{arith}
 use lib.ListN.{length}
 use Rattle.tables.specs.declared.places.Places.{Places}
-use Rattle.tables.specs.Books.{Good}
+use Rattle.tables.specs.Books.{GoodWith}
 use Rattle.tables.specs.Indexes.{tableAt, wordOf, headerStart, headerCount}
 use Rattle.tables.specs.Places.{placesOf}
 use Rattle.tables.specs.Views.{View, viewOf, Parent}
@@ -50,7 +50,7 @@ header-done b f (suc k) new b' e h = rw e (header-refl (viewOf (placesOf b) b) f
 
 -- ---- the record
 
-module _ (b : List ℕ) (g : Good b (placesOf b)) (f : ℕ) (gone : ℕ → Type 0) where
+module _ (b : List ℕ) {extra : ℕ → ℕ} (g : GoodWith extra b (placesOf b)) (f : ℕ) (gone : ℕ → Type 0) where
   abbrev p : Places
   p = placesOf b
 
@@ -97,16 +97,17 @@ module _ (b : List ℕ) (g : Good b (placesOf b)) (f : ℕ) (gone : ℕ → Type
   flag-leaves : (n : ℕ) → Leaves b (putFlag b n) f gone
   flag-leaves n = leaves-tables (putFlag b n) (λ j. table-kept p j (kept-flag b n) (inr (omega (arith, g .layout))))
 
-  pub mounted-leaves : (r : ℕ) (b' : List ℕ) → Mounted b r b' → Leaves b b' f gone
-  mounted-leaves r b' h = leaves-done r (putFlag b 1) b' (h .books) (λ e. flag-leaves 1)
+module _ (b withheld : List ℕ) {extra : ℕ → ℕ} (g : GoodWith extra b (placesOf b)) (f : ℕ) (gone : ℕ → Type 0) where
+  pub mounted-leaves : (r : ℕ) (b' : List ℕ) → Mounted b withheld r b' → Leaves b b' f gone
+  mounted-leaves r b' h = leaves-done b g f gone r (putFlag b 1) b' (h .books) (λ e. flag-leaves b g f gone 1)
 
-  pub dismounted-leaves : (r : ℕ) (b' : List ℕ) → Dismounted b r b' → Leaves b b' f gone
-  dismounted-leaves r b' h = leaves-done r (putFlag b 0) b' (h .books) (λ e. flag-leaves 0)
+  pub dismounted-leaves : (r : ℕ) (b' : List ℕ) → Dismounted b withheld r b' → Leaves b b' f gone
+  dismounted-leaves r b' h = leaves-done b g f gone r (putFlag b 0) b' (h .books) (λ e. flag-leaves b g f gone 0)
 
 -- ---- which files stood before
 
 -- a file of b' is one of b, its sectors at their places, if the changed one is
-pub stood : (p : Places) (b b' : List ℕ) → Good b' p → (x : ℕ) → Untouched (viewOf p b) (viewOf p b') x
+pub stood : (p : Places) (b b' : List ℕ) {extra : ℕ → ℕ} → GoodWith extra b' p → (x : ℕ) → Untouched (viewOf p b) (viewOf p b') x
     → (Parent (viewOf p b') x → Parent (viewOf p b) x × SamePlaces (viewOf p b') (viewOf p b) x)
     → (h : ℕ) → Parent (viewOf p b') h → Parent (viewOf p b) h × SamePlaces (viewOf p b') (viewOf p b) h
 stood p b b' g x u own h parent = elim (ℕ-discrete h x) [
@@ -127,7 +128,7 @@ stood-done b (suc k) new b' e own = λ h parent. rw e (rw e at parent, places-re
 -- ---- actual delete
 
 -- the file's number is no file's then
-released-none : (b : List ℕ) (g : Good b (placesOf b)) (f : ℕ) (date : List ℕ) → Parent (viewOf (placesOf b) b) f → length date ≡ 6 → Parent (viewOf (placesOf b) (released (placesOf b) b f date)) f → ⊥
+released-none : (b : List ℕ) {extra : ℕ → ℕ} (g : GoodWith extra b (placesOf b)) (f : ℕ) (date : List ℕ) → Parent (viewOf (placesOf b) b) f → length date ≡ 6 → Parent (viewOf (placesOf b) (released (placesOf b) b f date)) f → ⊥
 unfolding released
 released-none b g f date parent six now =
     let p = placesOf b in
@@ -136,16 +137,16 @@ released-none b g f date parent six now =
     let none = freed-word (viewOf p b) (viewOf p (freedFile p b f date)) f freed f (parent .low) (parent .high) (parent-file (viewOf p b) f parent) in
     omega (arith, now .word, ap wordOf same, none, parent .low)
 
-module _ (b body : List ℕ) (g : Good b (placesOf b)) (id : ℕ) (date : List ℕ) (r : ℕ) (b' body' : List ℕ) (h : Deleted b body id date r b' body') where
+module _ (b withheld body : List ℕ) {extra : ℕ → ℕ} (g : GoodWith extra b (placesOf b)) (id : ℕ) (date : List ℕ) (r : ℕ) (b' body' : List ℕ) (h : Deleted b withheld body id date r b' body') where
   abbrev gone : ℕ → Type 0
   gone f = (id ≡ f) × (r ≡ 0)
 
   module _ (e : r ≡ 0) where
     pub deleted-parent : Parent (viewOf (placesOf b) b) id
-    deleted-parent = recover-asks b body id date r (h .number) e (placesOf b) refl .1 .0
+    deleted-parent = recover-asks b withheld body id date r (h .number) e (placesOf b) refl .1 .0
 
     six : length date ≡ 6
-    six = recover-asks b body id date r (h .number) e (placesOf b) refl .1 .1 .1
+    six = recover-asks b withheld body id date r (h .number) e (placesOf b) refl .1 .1 .1
 
     frame : Untouched (viewOf (placesOf b) b) (viewOf (placesOf b) (released (placesOf b) b id date)) id
     frame = released-untouched (placesOf b) b (g .layout) (g .lawful) id deleted-parent date six
@@ -159,7 +160,7 @@ module _ (b body : List ℕ) (g : Good b (placesOf b)) (id : ℕ) (date : List �
   deleted-header kept = header-done b id r (released (placesOf b) b id date) b' (h .books) (λ e. absurd (kept (refl, e)))
 
   -- and no other comes to be
-  pub deleted-stood : Good b' (placesOf b) → (f : ℕ) → Parent (viewOf (placesOf b) b') f → Parent (viewOf (placesOf b) b) f × SamePlaces (viewOf (placesOf b) b') (viewOf (placesOf b) b) f
+  pub deleted-stood : GoodWith extra b' (placesOf b) → (f : ℕ) → Parent (viewOf (placesOf b) b') f → Parent (viewOf (placesOf b) b) f × SamePlaces (viewOf (placesOf b) b') (viewOf (placesOf b) b) f
   deleted-stood good = stood-done b r (released (placesOf b) b id date) b' (h .books) (λ e.
       (let is : b' ≡ released (placesOf b) b id date = rw e at (h .books) in
       stood (placesOf b) b b' good id (rw is (frame e)) (λ now. absurd (released-none b g id date (deleted-parent e) (six e) (rw is at now)))))

@@ -10,10 +10,10 @@ use native.Mathlib.Omega.{arith}
 use lib.ListN.{length}
 use Rattle.field.proofs.BitLaws.{bitAt-lt}
 use Rattle.tables.specs.declared.places.Places.{Places}
-use Rattle.tables.specs.Books.{Good}
+use Rattle.tables.specs.Books.{GoodWith}
 use Rattle.tables.specs.Dates.{Date}
 use Rattle.tables.specs.Gates.{Gate}
-use Rattle.tables.specs.Lawful.{Lawful}
+use Rattle.tables.specs.Lawful.{LawfulWith, LawfulSome}
 use Rattle.tables.specs.Places.{placesOf, Layout}
 use Rattle.tables.specs.Sector1.{flagOf}
 use Rattle.tables.specs.Views.{viewOf, Parent, UnderHeader}
@@ -42,7 +42,7 @@ use Rattle.histories.proofs.StepGrow.{longer-frame}
 
 -- ---- the books
 
-module _ (b : List ℕ) (g : Good b (placesOf b)) (id at n : ℕ) (date : List ℕ) (parent : Parent (viewOf (placesOf b) b) id) (room : Gate (lackTests b id (askedLength b id at n)) 0)
+module _ (b : List ℕ) {extra : ℕ → ℕ} (g : GoodWith extra b (placesOf b)) (id at n : ℕ) (date : List ℕ) (parent : Parent (viewOf (placesOf b) b) id) (room : Gate (lackTests b id (askedLength b id at n)) 0)
     (valid : Date date) where
   abbrev p : Places
   p = placesOf b
@@ -73,7 +73,7 @@ module _ (b : List ℕ) (g : Good b (placesOf b)) (id at n : ℕ) (date : List �
 -- ---- the request
 
 module _ (v v' : Volume) (id : ℕ) (position long : Amount) (x : Bool) (input date : List ℕ) (r : Answer)
-    (h : Wrote (v .books) (v .body) id position long x input date r (v' .books) (v' .body)) where
+    (h : Wrote (v .books) (v .withheld) (v .body) id position long x input date r (v' .books) (v' .body)) where
   abbrev at : ℕ
   at = amountValue position
 
@@ -86,16 +86,16 @@ module _ (v v' : Volume) (id : ℕ) (position long : Amount) (x : Bool) (input d
   abbrev new : List ℕ
   new = writtenBooks b id at n date
 
-  module _ (g : Good b (placesOf b)) where
+  module _ {extra : ℕ → ℕ} (g : GoodWith extra b (placesOf b)) where
     module _ (done : numberOf r ≡ 0) where
       here : Parent (viewOf (placesOf b) b) id
-      here = write-parent b (v .body) id position long (length input) date (numberOf r) (h .number) done
+      here = write-parent b (v .withheld) (v .body) id position long (length input) date (numberOf r) (h .number) done
 
       room : Gate (lackTests b id (askedLength b id at n)) 0
-      room = write-lack b (v .body) id position long (length input) date (numberOf r) (h .number) done
+      room = write-lack b (v .withheld) (v .body) id position long (length input) date (numberOf r) (h .number) done
 
       valid : Date date
-      valid = write-allows b (v .body) id position long (length input) date (numberOf r) (h .number) done .date'
+      valid = write-allows b (v .withheld) (v .body) id position long (length input) date (numberOf r) (h .number) done .date'
 
       frame : Untouched (viewOf (placesOf b) b) (viewOf (placesOf b) new) id × SamePlaces (viewOf (placesOf b) b) (viewOf (placesOf b) new) id
           × HeaderKept (viewOf (placesOf b) b) (viewOf (placesOf b) new) id
@@ -138,15 +138,15 @@ module _ (v v' : Volume) (id : ℕ) (position long : Amount) (x : Bool) (input d
       abbrev p' : Places
       p' = placesOf (v' .books)
 
-      asked : Layout p' (length (v' .books)) × (Lawful p' (v' .books) × Movable (seen v') id (at / 1024) (n / 1024) (length input) (length (v .body)))
+      asked : Layout p' (length (v' .books)) × (LawfulSome p' (v' .books) × Movable (seen v') id (at / 1024) (n / 1024) (length input) (length (v .body)))
       asked =
-          wrote-asks (v .books) (v .body) id position long (length input) date (numberOf r) (h .number) done at (amountValue long) n refl refl refl (v' .books) books-are p' refl some
+          wrote-asks (v .books) (v .withheld) (v .body) id position long (length input) date (numberOf r) (h .number) done at (amountValue long) n refl refl refl (v' .books) books-are p' refl some
 
       layout : Layout p' (length (v' .books))
       layout = asked .0
 
-      lawful : Lawful p' (v' .books)
-      lawful = asked .1 .0
+      lawful : LawfulWith (asked .1 .0 .0) p' (v' .books)
+      lawful = asked .1 .0 .1
 
       moves : Movable (seen v') id (at / 1024) (n / 1024) (length input) (length (v .body))
       moves = asked .1 .1

@@ -1,4 +1,4 @@
--- The bench cards, one table: counts per zone type, and what the promises of format, mount, create fixed and read allow. Proved by `cards` of
+-- The bench cards, one table: counts per zone type, and what the promises of format, mount, create fixed and read allow; no block is withheld. Proved by `cards` of
 -- proofs/BenchCards.antt.
 use mathlib.Core.Path.{_≡_}
 use mathlib.Core.List.{List, [], _∷_}
@@ -72,7 +72,7 @@ run s c = record { start = record { 0 = s }; count = c }
 
 -- create fixed of a plain file, its blocks of the types of the flag: 252 is all six, the default, 128 is H, 4 is C
 abbrev pub CreateNamed : List ℕ → List ℕ → ℕ → ℕ → Created → List ℕ → Type 0
-CreateNamed name b flag size = CreatedFixed b name (Is size) (Types flag) 0 cardDate
+CreateNamed name b flag size = CreatedFixed b [] name (Is size) (Types flag) 0 cardDate
 
 -- named A
 abbrev pub Create : List ℕ → ℕ → ℕ → Created → List ℕ → Type 0
@@ -81,7 +81,7 @@ Create = CreateNamed (65 ∷ [])
 -- read of file 1 at a position, of a wanted length: the one result, whatever body and buffer of enough bytes are lent
 abbrev pub ReadGives : List ℕ → ℕ → ℕ → Answer → (Bool → List ℕ → List ℕ → List ℕ) → Type 0
 ReadGives b at long r output = (exchange : Bool) (body out : List ℕ) → BodySized b body → wholeSectors long ≤ length out
-    → OneResult (ReadOut b body 1 (Is at) (Is long) exchange out) r (output exchange body out)
+    → OneResult (ReadOut b [] body 1 (Is at) (Is long) exchange out) r (output exchange body out)
 
 -- ---- the books of the cards
 
@@ -101,7 +101,7 @@ fresh len z = putFlag (blank len z) 1
 
 -- these are the one result of format, whatever the books held, and then of mount
 abbrev pub FreshBooks : ℕ → ℕ → Type 0
-FreshBooks len z = (b : List ℕ) → length b ≡ len → OneResult (Formatted b (Is z) (Is 8) label) 0 (blank len z) × OneResult (Mounted (blank len z)) 0 (fresh len z)
+FreshBooks len z = (b : List ℕ) → length b ≡ len → OneResult (Formatted b (Is z) (Is 8) label) 0 (blank len z) × OneResult (Mounted (blank len z) []) 0 (fresh len z)
 
 -- a plain file of n bytes
 unfoldable pub plainFile : ℕ → New

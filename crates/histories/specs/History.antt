@@ -44,17 +44,19 @@ use Rattle.requests.specs.Write.{Wrote}
 
 -- ---- a volume
 
+-- books and body, and the list of blocks withheld on it, by their first sectors: "the same throughout" (W7)
 pub record Volume : Type 0 where
   pub books : List ℕ
+  pub withheld : List ℕ
   pub body : List ℕ
 
 -- what the rules see of it
 abbrev pub seen : Volume → View
 seen v = viewOf (placesOf (v .books)) (v .books)
 
--- "lawful books and a body of the right length": none of the numbers 1 to 4 applies to the books
+-- "lawful books and a body of the right length": none of the numbers 1 to 4 applies to the books, nor 7 to the list
 pub record LawfulVolume (v : Volume) : Type 0 where
-  pub lawful : Gate (bookTests (v .books)) 0
+  pub lawful : Gate (bookTests (v .books) (v .withheld)) 0
   pub sized : BodySized (v .books) (v .body)
 
 -- ---- requests with their arguments; of lent buffers, what they hold before. Each promise has its answer, and what lent buffers hold then
@@ -75,18 +77,18 @@ pub data Question : Type 0 where
   brokenText : Question
 
 abbrev pub Answers : Question → Volume → Type 0
-Answers (search pattern ids) v = (r : Answer) × (ids' : List ℕ) × Searched (v .books) pattern ids r ids'
-Answers (list from entries) v = (r : Answer) × (entries' : List ℕ) × Listed (v .books) from entries r entries'
-Answers (locate id k) v = (r : Located) × Locates (v .books) id k r
-Answers (show id k) v = (part : List ℕ) × Shown (v .books) (v .body) id k part
-Answers (showNumber id k) v = (r : ℕ) × Gate (showTests (v .books) (v .body) id k) r
-Answers (showHeader id) v = (part : List ℕ) × HeaderShown (v .books) (v .body) id part
-Answers (headerNumber id) v = (r : ℕ) × Gate (showHeaderTests (v .books) (v .body) id) r
-Answers (read id position long exchange out) v = (r : Answer) × (out' : List ℕ) × ReadOut (v .books) (v .body) id position long exchange out r out'
-Answers space v = (r : Space) × Spaced (v .books) r
-Answers report v = (r : Text) × Reported (v .books) r
-Answers brokenRule v = (r : Diagnosis) × Diagnosed (v .books) r
-Answers brokenText v = (r : Text) × DiagnosisText (v .books) r
+Answers (search pattern ids) v = (r : Answer) × (ids' : List ℕ) × Searched (v .books) (v .withheld) pattern ids r ids'
+Answers (list from entries) v = (r : Answer) × (entries' : List ℕ) × Listed (v .books) (v .withheld) from entries r entries'
+Answers (locate id k) v = (r : Located) × Locates (v .books) (v .withheld) id k r
+Answers (show id k) v = (part : List ℕ) × Shown (v .books) (v .withheld) (v .body) id k part
+Answers (showNumber id k) v = (r : ℕ) × Gate (showTests (v .books) (v .withheld) (v .body) id k) r
+Answers (showHeader id) v = (part : List ℕ) × HeaderShown (v .books) (v .withheld) (v .body) id part
+Answers (headerNumber id) v = (r : ℕ) × Gate (showHeaderTests (v .books) (v .withheld) (v .body) id) r
+Answers (read id position long exchange out) v = (r : Answer) × (out' : List ℕ) × ReadOut (v .books) (v .withheld) (v .body) id position long exchange out r out'
+Answers space v = (r : Space) × Spaced (v .books) (v .withheld) r
+Answers report v = (r : Text) × Reported (v .books) (v .withheld) r
+Answers brokenRule v = (r : Diagnosis) × Diagnosed (v .books) (v .withheld) r
+Answers brokenText v = (r : Text) × DiagnosisText (v .books) (v .withheld) r
 
 -- these, and those that may change it
 pub data Request : Type 0 where
@@ -103,25 +105,31 @@ pub data Request : Type 0 where
   placeHeader : (id : ℕ) (content date : List ℕ) → Request
   write : (id : ℕ) (position long : Amount) (exchange : Bool) (input date : List ℕ) → Request
 
--- a request that is lent the books alone: its promise P is about them, and the body stays
+-- a request that is lent the books alone: its promise P is about them, and the body stays; so does the list, with every request
 pub record BooksOnly (P : List ℕ → List ℕ → Type 0) (v v' : Volume) : Type 0 where
   pub promise : P (v .books) (v' .books)
   pub same : v' .body ≡ v .body
+  pub list : v' .withheld ≡ v .withheld
+
+-- one that is lent the body too
+pub record BodyToo (P : List ℕ → List ℕ → List ℕ → List ℕ → Type 0) (v v' : Volume) : Type 0 where
+  pub promise : P (v .books) (v .body) (v' .books) (v' .body)
+  pub list : v' .withheld ≡ v .withheld
 
 -- what the promise of the request says of the volume before and after
 abbrev pub Does : Request → Volume → Volume → Type 0
 Does (looks q) v v' = Answers q v × (v' ≡ v)
-Does mount v v' = (r : ℕ) × BooksOnly (λ b b'. Mounted b r b') v v'
-Does dismount v v' = (r : ℕ) × BooksOnly (λ b b'. Dismounted b r b') v v'
-Does (createFixed name size types kind date) v v' = (r : Created) × BooksOnly (λ b b'. CreatedFixed b name size types kind date r b') v v'
-Does (createVariable name cell kind date) v v' = (r : Created) × BooksOnly (λ b b'. CreatedVariable b name cell kind date r b') v v'
-Does (grow id long date) v v' = (r : ℕ) × BooksOnly (λ b b'. Grew b id long date r b') v v'
-Does (temporaryDelete id date) v v' = (r : ℕ) × Removed (v .books) (v .body) id date r (v' .books) (v' .body)
-Does (recover id date) v v' = (r : ℕ) × Recovered (v .books) (v .body) id date r (v' .books) (v' .body)
-Does (actualDelete id date) v v' = (r : ℕ) × Deleted (v .books) (v .body) id date r (v' .books) (v' .body)
-Does (setProtection id w date) v v' = (r : ℕ) × BooksOnly (λ b b'. Protected b id w date r b') v v'
-Does (placeHeader id content date) v v' = (r : ℕ) × HeaderPlaced (v .books) (v .body) id content date r (v' .books) (v' .body)
-Does (write id position long exchange input date) v v' = (r : Answer) × Wrote (v .books) (v .body) id position long exchange input date r (v' .books) (v' .body)
+Does mount v v' = (r : ℕ) × BooksOnly (λ b b'. Mounted b (v .withheld) r b') v v'
+Does dismount v v' = (r : ℕ) × BooksOnly (λ b b'. Dismounted b (v .withheld) r b') v v'
+Does (createFixed name size types kind date) v v' = (r : Created) × BooksOnly (λ b b'. CreatedFixed b (v .withheld) name size types kind date r b') v v'
+Does (createVariable name cell kind date) v v' = (r : Created) × BooksOnly (λ b b'. CreatedVariable b (v .withheld) name cell kind date r b') v v'
+Does (grow id long date) v v' = (r : ℕ) × BooksOnly (λ b b'. Grew b (v .withheld) id long date r b') v v'
+Does (temporaryDelete id date) v v' = (r : ℕ) × BodyToo (λ b body b' body'. Removed b (v .withheld) body id date r b' body') v v'
+Does (recover id date) v v' = (r : ℕ) × BodyToo (λ b body b' body'. Recovered b (v .withheld) body id date r b' body') v v'
+Does (actualDelete id date) v v' = (r : ℕ) × BodyToo (λ b body b' body'. Deleted b (v .withheld) body id date r b' body') v v'
+Does (setProtection id w date) v v' = (r : ℕ) × BooksOnly (λ b b'. Protected b (v .withheld) id w date r b') v v'
+Does (placeHeader id content date) v v' = (r : ℕ) × BodyToo (λ b body b' body'. HeaderPlaced b (v .withheld) body id content date r b' body') v v'
+Does (write id position long exchange input date) v v' = (r : Answer) × BodyToo (λ b body b' body'. Wrote b (v .withheld) body id position long exchange input date r b' body') v v'
 
 -- ---- histories
 

@@ -52,11 +52,11 @@ use Rattle.requests.specs.Write.{Wrote}
 use Rattle.requests.proofs.WriteLaws.{wrote-one}
 use Rattle.isc.specs.Border.{AnswerOut, CreateOut, LocateOut, SpaceOut, BrokenOut, Lines, TextOut, TextRoom, ReportLines, BrokenLines}
 
-pub space-is : (b : List ℕ) (found : Space) (s u : ℕ) → Spaced b found → found ≡ Is s u → SpaceOut b 0 s u
-space-is b found s u h e = record { answer = Is s u; spaced = rw e at h; number = refl; all = refl; taken = refl }
+pub space-is : (b withheld : List ℕ) (found : Space) (s u : ℕ) → Spaced b withheld found → found ≡ Is s u → SpaceOut b withheld 0 s u
+space-is b withheld found s u h e = record { answer = Is s u; spaced = rw e at h; number = refl; all = refl; taken = refl }
 
-pub space-no : (b : List ℕ) (found : Space) (n : ℕ) → Spaced b found → found ≡ Refused n → SpaceOut b n 0 0
-space-no b found n h e = record { answer = Refused n; spaced = rw e at h; number = refl; all = refl; taken = refl }
+pub space-no : (b withheld : List ℕ) (found : Space) (n : ℕ) → Spaced b withheld found → found ≡ Refused n → SpaceOut b withheld n 0 0
+space-no b withheld found n h e = record { answer = Refused n; spaced = rw e at h; number = refl; all = refl; taken = refl }
 
 -- ---- texts
 
@@ -87,26 +87,26 @@ module _ (least : ℕ) (P : List ℕ → Type 0) (text : List ℕ) where
 text-room : (xs : List ℕ) (t : Text) (room : ℕ) → t ≡ asText xs → length xs ≤ room → length xs ≤ 192 → TextRoom t room
 text-room xs t room e l m = record { whole = text-fits xs t e; count = text-count xs t e; fits = omega (arith, text-length xs t e); few = omega (arith, text-length xs t e) }
 
-module _ (b : List ℕ) (t : Text) where
-  pub report-room : (room : ℕ) → 192 ≤ room → Reported b t → TextRoom t room
+module _ (b withheld : List ℕ) (t : Text) where
+  pub report-room : (room : ℕ) → 192 ≤ room → Reported b withheld t → TextRoom t room
   report-room room l h = text-room (reportOf (h .number) b) t room (h .text) (omega (arith, h .short)) (h .short)
 
-  pub broken-room : (room : ℕ) → 64 ≤ room → DiagnosisText b t → TextRoom t room
+  pub broken-room : (room : ℕ) → 64 ≤ room → DiagnosisText b withheld t → TextRoom t room
   broken-room room l h = text-room (diagnosisLines (h .diagnosis)) t room (h .lines .text) (omega (arith, h .lines .short)) (omega (arith, h .lines .short))
 
   module _ (text text' : List ℕ) (r len : ℕ) (e : (r ≡ 0) × (text' ≡ over text 0 (take (t .length) (t .bytes))) × (len ≡ t .length)) where
-    pub report-written : 192 ≤ length text → Reported b t → TextOut 192 (ReportLines b) text r text' len
-    report-written l h = text-written 192 (ReportLines b) text text' (reportOf (h .number) b) t r len l (record { number = h .number; gate = h .gate; is = refl }) (h .text) e
+    pub report-written : 192 ≤ length text → Reported b withheld t → TextOut 192 (ReportLines b withheld) text r text' len
+    report-written l h = text-written 192 (ReportLines b withheld) text text' (reportOf (h .number) b) t r len l (record { number = h .number; gate = h .gate; is = refl }) (h .text) e
 
-    pub broken-written : 64 ≤ length text → DiagnosisText b t → TextOut 64 (BrokenLines b) text r text' len
-    broken-written l h = text-written 64 (BrokenLines b) text text' (diagnosisLines (h .diagnosis)) t r len l (record { diagnosis = h .diagnosis; diagnosed = h .diagnosed; is = refl }) (h .lines .text) e
+    pub broken-written : 64 ≤ length text → DiagnosisText b withheld t → TextOut 64 (BrokenLines b withheld) text r text' len
+    broken-written l h = text-written 64 (BrokenLines b withheld) text text' (diagnosisLines (h .diagnosis)) t r len l (record { diagnosis = h .diagnosis; diagnosed = h .diagnosed; is = refl }) (h .lines .text) e
 
 -- which rule is broken, arm by arm
-module _ (b : List ℕ) (d : Diagnosis) (h : Diagnosed b d) where
-  pub broken-found : (f : Fault) (rule kind place : ℕ) → d ≡ Found f → rule ≡ ruleOf f → kind ≡ placeKindOf f → place ≡ faultPlace f → BrokenOut b 0 rule kind place
+module _ (b withheld : List ℕ) (d : Diagnosis) (h : Diagnosed b withheld d) where
+  pub broken-found : (f : Fault) (rule kind place : ℕ) → d ≡ Found f → rule ≡ ruleOf f → kind ≡ placeKindOf f → place ≡ faultPlace f → BrokenOut b withheld 0 rule kind place
   broken-found f rule kind place e x y z = record { answer = Found f; diagnosed = rw e at h; number = refl; broken = x; sort = y; place' = z }
 
-  pub broken-refused : (n : ℕ) → d ≡ Unexamined n → BrokenOut b n 0 0 0
+  pub broken-refused : (n : ℕ) → d ≡ Unexamined n → BrokenOut b withheld n 0 0 0
   broken-refused n e = record { answer = Unexamined n; diagnosed = rw e at h; number = refl; broken = refl; sort = refl; place' = refl }
 
 -- signed arguments, taken apart
@@ -117,31 +117,31 @@ format-border b b' x y z n l r e f h = rw (← e, ← f) h
 pub create-out : (P : Created → Type 0) (made : Created) (r id : ℕ) → P made → (r ≡ createdNumber made) × (id ≡ idValue made) → CreateOut P r id
 create-out P made r id h e = record { answer = made; holds = h; number = e .0; value = e .1 }
 
-pub fixed-border : (b b' name date : List ℕ) (x flag : ℤ) (kind : ℕ) (size : Amount) (types : Chosen) (made : Created) → size ≡ amountOf x → types ≡ chosenTypes flag → CreatedFixed b name size types kind date made b' → CreatedFixed b name (amountOf x) (chosenTypes flag) kind date made b'
-fixed-border b b' name date x flag kind size types made e d h = rw (← e, ← d) h
+pub fixed-border : (b withheld b' name date : List ℕ) (x flag : ℤ) (kind : ℕ) (size : Amount) (types : Chosen) (made : Created) → size ≡ amountOf x → types ≡ chosenTypes flag → CreatedFixed b withheld name size types kind date made b' → CreatedFixed b withheld name (amountOf x) (chosenTypes flag) kind date made b'
+fixed-border b withheld b' name date x flag kind size types made e d h = rw (← e, ← d) h
 
-pub variable-border : (b b' name date : List ℕ) (x : ℤ) (kind : ℕ) (cell : Amount) (made : Created) → cell ≡ amountOf x → CreatedVariable b name cell kind date made b' → CreatedVariable b name (amountOf x) kind date made b'
-variable-border b b' name date x kind cell made e h = rw (← e) h
+pub variable-border : (b withheld b' name date : List ℕ) (x : ℤ) (kind : ℕ) (cell : Amount) (made : Created) → cell ≡ amountOf x → CreatedVariable b withheld name cell kind date made b' → CreatedVariable b withheld name (amountOf x) kind date made b'
+variable-border b withheld b' name date x kind cell made e h = rw (← e) h
 
-pub grow-border : (b b' date : List ℕ) (id : ℕ) (x : ℤ) (long : Amount) (r : ℕ) → long ≡ amountOf x → Grew b id long date r b' → Grew b id (amountOf x) date r b'
-grow-border b b' date id x long r e h = rw (← e) h
+pub grow-border : (b withheld b' date : List ℕ) (id : ℕ) (x : ℤ) (long : Amount) (r : ℕ) → long ≡ amountOf x → Grew b withheld id long date r b' → Grew b withheld id (amountOf x) date r b'
+grow-border b withheld b' date id x long r e h = rw (← e) h
 
-pub locate-at : (b : List ℕ) (id k : ℕ) (found : Located) (s : Sector) → Locates b id k found → found ≡ At s → LocateOut b id k 0 (s .0)
-locate-at b id k found s h e = record { answer = At s; locates = rw e at h; number = refl; value = refl }
+pub locate-at : (b withheld : List ℕ) (id k : ℕ) (found : Located) (s : Sector) → Locates b withheld id k found → found ≡ At s → LocateOut b withheld id k 0 (s .0)
+locate-at b withheld id k found s h e = record { answer = At s; locates = rw e at h; number = refl; value = refl }
 
-pub locate-no : (b : List ℕ) (id k : ℕ) (found : Located) (n : ℕ) → Locates b id k found → found ≡ NotLocated n → LocateOut b id k n 0
-locate-no b id k found n h e = record { answer = NotLocated n; locates = rw e at h; number = refl; value = refl }
+pub locate-no : (b withheld : List ℕ) (id k : ℕ) (found : Located) (n : ℕ) → Locates b withheld id k found → found ≡ NotLocated n → LocateOut b withheld id k n 0
+locate-no b withheld id k found n h e = record { answer = NotLocated n; locates = rw e at h; number = refl; value = refl }
 
 -- a request's promise with the number and the value that `hand_back` gives
 pub answer-out : (P : Answer → Type 0) (answer : Answer) (r value : ℕ) → P answer → (r ≡ answerNumber answer) × (value ≡ valueOf answer) → AnswerOut P r value
 answer-out P answer r value h e = record { answer = answer; holds = h; number = e .0; one = e .1 }
 
-pub read-border : (b body out out' : List ℕ) (id : ℕ) (x y : ℤ) (at long : Amount) (exchange : Bool) (r : Answer) → at ≡ amountOf x → long ≡ amountOf y → ReadOut b body id at long exchange out r out' → ReadOut b body id (amountOf x) (amountOf y) exchange out r out'
-read-border b body out out' id x y at long exchange r e f h = rw (← e, ← f) h
+pub read-border : (b withheld body out out' : List ℕ) (id : ℕ) (x y : ℤ) (at long : Amount) (exchange : Bool) (r : Answer) → at ≡ amountOf x → long ≡ amountOf y → ReadOut b withheld body id at long exchange out r out' → ReadOut b withheld body id (amountOf x) (amountOf y) exchange out r out'
+read-border b withheld body out out' id x y at long exchange r e f h = rw (← e, ← f) h
 
-pub write-border : (b b' body body' input date : List ℕ) (id : ℕ) (x y : ℤ) (at long : Amount) (exchange : Bool) (r : Answer) → at ≡ amountOf x → long ≡ amountOf y
-    → Wrote b body id at long exchange input date r b' body' → Wrote b body id (amountOf x) (amountOf y) exchange input date r b' body'
-write-border b b' body body' input date id x y at long exchange r e f h = rw (← e, ← f) h
+pub write-border : (b withheld b' body body' input date : List ℕ) (id : ℕ) (x y : ℤ) (at long : Amount) (exchange : Bool) (r : Answer) → at ≡ amountOf x → long ≡ amountOf y
+    → Wrote b withheld body id at long exchange input date r b' body' → Wrote b withheld body id (amountOf x) (amountOf y) exchange input date r b' body'
+write-border b withheld b' body body' input date id x y at long exchange r e f h = rw (← e, ← f) h
 
 -- ---- one result
 
@@ -157,44 +157,44 @@ answer-one P Q S r r' v v' one h k =
     let e = one (h .answer) (k .answer) (h .holds) (k .holds) in
     (h .number ∙ ap answerNumber (e .0) ∙ sym (k .number), h .one ∙ ap valueOf (e .0) ∙ sym (k .one), e .1)
 
-pub search-one : (b pattern ids x y : List ℕ) (r r' n n' : ℕ)
-    → AnswerOut (λ answer. Searched b pattern ids answer x) r n → AnswerOut (λ answer. Searched b pattern ids answer y) r' n' → (r ≡ r') × (n ≡ n') × (x ≡ y)
-search-one b pattern ids x y r r' n n' = answer-one _ _ _ r r' n n' (λ a c. searched-one b pattern ids a c x y)
+pub search-one : (b withheld pattern ids x y : List ℕ) (r r' n n' : ℕ)
+    → AnswerOut (λ answer. Searched b withheld pattern ids answer x) r n → AnswerOut (λ answer. Searched b withheld pattern ids answer y) r' n' → (r ≡ r') × (n ≡ n') × (x ≡ y)
+search-one b withheld pattern ids x y r r' n n' = answer-one _ _ _ r r' n n' (λ a c. searched-one b withheld pattern ids a c x y)
 
-pub list-one : (b : List ℕ) (from : ℕ) (entries x y : List ℕ) (r r' n n' : ℕ)
-    → AnswerOut (λ answer. Listed b from entries answer x) r n → AnswerOut (λ answer. Listed b from entries answer y) r' n' → (r ≡ r') × (n ≡ n') × (x ≡ y)
-list-one b from entries x y r r' n n' = answer-one _ _ _ r r' n n' (λ a c. listed-one b from entries a c x y)
+pub list-one : (b withheld : List ℕ) (from : ℕ) (entries x y : List ℕ) (r r' n n' : ℕ)
+    → AnswerOut (λ answer. Listed b withheld from entries answer x) r n → AnswerOut (λ answer. Listed b withheld from entries answer y) r' n' → (r ≡ r') × (n ≡ n') × (x ≡ y)
+list-one b withheld from entries x y r r' n n' = answer-one _ _ _ r r' n n' (λ a c. listed-one b withheld from entries a c x y)
 
-pub read-one : (b body : List ℕ) (id : ℕ) (at long : Amount) (exchange : Bool) (out x y : List ℕ) (r r' n n' : ℕ)
-    → AnswerOut (λ answer. ReadOut b body id at long exchange out answer x) r n → AnswerOut (λ answer. ReadOut b body id at long exchange out answer y) r' n' → (r ≡ r') × (n ≡ n') × (x ≡ y)
-read-one b body id at long exchange out x y r r' n n' = answer-one _ _ _ r r' n n' (λ a c. read-out-one b body id at long exchange out a c x y)
+pub read-one : (b withheld body : List ℕ) (id : ℕ) (at long : Amount) (exchange : Bool) (out x y : List ℕ) (r r' n n' : ℕ)
+    → AnswerOut (λ answer. ReadOut b withheld body id at long exchange out answer x) r n → AnswerOut (λ answer. ReadOut b withheld body id at long exchange out answer y) r' n' → (r ≡ r') × (n ≡ n') × (x ≡ y)
+read-one b withheld body id at long exchange out x y r r' n n' = answer-one _ _ _ r r' n n' (λ a c. read-out-one b withheld body id at long exchange out a c x y)
 
-pub write-one : (b body : List ℕ) (id : ℕ) (at long : Amount) (exchange : Bool) (input date x y u w : List ℕ) (r r' n n' : ℕ)
-    → AnswerOut (λ answer. Wrote b body id at long exchange input date answer x u) r n → AnswerOut (λ answer. Wrote b body id at long exchange input date answer y w) r' n' → (r ≡ r') × (n ≡ n') × (x ≡ y) × (u ≡ w)
-write-one b body id at long exchange input date x y u w r r' n n' h k =
-    let e = answer-one _ _ ((x ≡ y) × (u ≡ w)) r r' n n' (λ a c p q. let i = wrote-one b body id at long exchange input date a c x y u w p q in (i .0, (i .1, i .2))) h k in
+pub write-one : (b withheld body : List ℕ) (id : ℕ) (at long : Amount) (exchange : Bool) (input date x y u w : List ℕ) (r r' n n' : ℕ)
+    → AnswerOut (λ answer. Wrote b withheld body id at long exchange input date answer x u) r n → AnswerOut (λ answer. Wrote b withheld body id at long exchange input date answer y w) r' n' → (r ≡ r') × (n ≡ n') × (x ≡ y) × (u ≡ w)
+write-one b withheld body id at long exchange input date x y u w r r' n n' h k =
+    let e = answer-one _ _ ((x ≡ y) × (u ≡ w)) r r' n n' (λ a c p q. let i = wrote-one b withheld body id at long exchange input date a c x y u w p q in (i .0, (i .1, i .2))) h k in
     (e .0, e .1, e .2 .0, e .2 .1)
 
-pub locate-one : (b : List ℕ) (id k r r' s s' : ℕ) → LocateOut b id k r s → LocateOut b id k r' s' → (r ≡ r') × (s ≡ s')
-locate-one b id k r r' s s' h l =
-    let e : h .answer ≡ l .answer = located-one b id k (h .answer) (l .answer) (h .locates) (l .locates) in
+pub locate-one : (b withheld : List ℕ) (id k r r' s s' : ℕ) → LocateOut b withheld id k r s → LocateOut b withheld id k r' s' → (r ≡ r') × (s ≡ s')
+locate-one b withheld id k r r' s s' h l =
+    let e : h .answer ≡ l .answer = located-one b withheld id k (h .answer) (l .answer) (h .locates) (l .locates) in
     (h .number ∙ ap locatedNumber e ∙ sym (l .number), h .value ∙ ap sectorValue e ∙ sym (l .value))
 
-pub space-one : (b : List ℕ) (r r' s s' u u' : ℕ) → SpaceOut b r s u → SpaceOut b r' s' u' → (r ≡ r') × (s ≡ s') × (u ≡ u')
-space-one b r r' s s' u u' h k =
-    let e : h .answer ≡ k .answer = spaced-one b (h .answer) (k .answer) (h .spaced) (k .spaced) in
+pub space-one : (b withheld : List ℕ) (r r' s s' u u' : ℕ) → SpaceOut b withheld r s u → SpaceOut b withheld r' s' u' → (r ≡ r') × (s ≡ s') × (u ≡ u')
+space-one b withheld r r' s s' u u' h k =
+    let e : h .answer ≡ k .answer = spaced-one b withheld (h .answer) (k .answer) (h .spaced) (k .spaced) in
     (h .number ∙ ap numberOf e ∙ sym (k .number), h .all ∙ ap sectorsValue e ∙ sym (k .all), h .taken ∙ ap usedValue e ∙ sym (k .taken))
 
 -- the report's, and which rule is broken
-pub report-one : (b xs ys : List ℕ) → ReportLines b xs → ReportLines b ys → xs ≡ ys
-report-one b xs ys h k = h .is ∙ ap (λ (n : ℕ). reportOf n b) (gate-one (bookTests b) (h .number) (k .number) (h .gate) (k .gate)) ∙ sym (k .is)
+pub report-one : (b withheld xs ys : List ℕ) → ReportLines b withheld xs → ReportLines b withheld ys → xs ≡ ys
+report-one b withheld xs ys h k = h .is ∙ ap (λ (n : ℕ). reportOf n b) (gate-one (bookTests b withheld) (h .number) (k .number) (h .gate) (k .gate)) ∙ sym (k .is)
 
-pub broken-text-one : (b xs ys : List ℕ) → BrokenLines b xs → BrokenLines b ys → xs ≡ ys
-broken-text-one b xs ys h k = h .is ∙ ap diagnosisLines (diagnosed-one b (h .diagnosis) (k .diagnosis) (h .diagnosed) (k .diagnosed)) ∙ sym (k .is)
+pub broken-text-one : (b withheld xs ys : List ℕ) → BrokenLines b withheld xs → BrokenLines b withheld ys → xs ≡ ys
+broken-text-one b withheld xs ys h k = h .is ∙ ap diagnosisLines (diagnosed-one b withheld (h .diagnosis) (k .diagnosis) (h .diagnosed) (k .diagnosed)) ∙ sym (k .is)
 
-pub broken-one : (b : List ℕ) (r r' u u' v v' w w' : ℕ) → BrokenOut b r u v w → BrokenOut b r' u' v' w' → (r ≡ r') × (u ≡ u') × (v ≡ v') × (w ≡ w')
-broken-one b r r' u u' v v' w w' h k =
-    let e = diagnosed-one b (h .answer) (k .answer) (h .diagnosed) (k .diagnosed) in (
+pub broken-one : (b withheld : List ℕ) (r r' u u' v v' w w' : ℕ) → BrokenOut b withheld r u v w → BrokenOut b withheld r' u' v' w' → (r ≡ r') × (u ≡ u') × (v ≡ v') × (w ≡ w')
+broken-one b withheld r r' u u' v v' w w' h k =
+    let e = diagnosed-one b withheld (h .answer) (k .answer) (h .diagnosed) (k .diagnosed) in (
       h .number ∙ ap diagnosisNumber e ∙ sym (k .number),
       h .broken ∙ ap ruleValue e ∙ sym (k .broken),
       h .sort ∙ ap kindValue e ∙ sym (k .sort),

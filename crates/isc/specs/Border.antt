@@ -40,24 +40,24 @@ pub record CreateOut (promise : Created → Type 0) (r id : ℕ) : Type 0 where
   pub value : id ≡ idValue answer
 
 -- locate: the number and the sector, 0 on a refusal
-pub record LocateOut (b : List ℕ) (id k r sector : ℕ) : Type 0 where
+pub record LocateOut (b withheld : List ℕ) (id k r sector : ℕ) : Type 0 where
   pub answer : Located
-  pub locates : Locates b id k answer
+  pub locates : Locates b withheld id k answer
   pub number : r ≡ locatedNumber answer
   pub value : sector ≡ sectorValue answer
 
 -- space: the number and the values of the answer, zeros on a refusal
-pub record SpaceOut (b : List ℕ) (r sectors used : ℕ) : Type 0 where
+pub record SpaceOut (b withheld : List ℕ) (r sectors used : ℕ) : Type 0 where
   pub answer : Space
-  pub spaced : Spaced b answer
+  pub spaced : Spaced b withheld answer
   pub number : r ≡ numberOf answer
   pub all : sectors ≡ sectorsValue answer
   pub taken : used ≡ usedValue answer
 
 -- which rule is broken: the number, the rule, the kind of place and the place, zeros on a refusal
-pub record BrokenOut (b : List ℕ) (r rule kind place : ℕ) : Type 0 where
+pub record BrokenOut (b withheld : List ℕ) (r rule kind place : ℕ) : Type 0 where
   pub answer : Diagnosis
-  pub diagnosed : Diagnosed b answer
+  pub diagnosed : Diagnosed b withheld answer
   pub number : r ≡ diagnosisNumber answer
   pub broken : rule ≡ ruleValue answer
   pub sort : kind ≡ kindValue answer
@@ -86,12 +86,12 @@ pub record TextRoom (t : Text) (room : ℕ) : Type 0 where
   pub few : t .length ≤ 192
 
 -- the report of the books b, and which rule they break
-pub record ReportLines (b xs : List ℕ) : Type 0 where
+pub record ReportLines (b withheld xs : List ℕ) : Type 0 where
   pub number : ℕ
-  pub gate : Gate (bookTests b) number
+  pub gate : Gate (bookTests b withheld) number
   pub is : xs ≡ reportOf number b
 
-pub record BrokenLines (b xs : List ℕ) : Type 0 where
+pub record BrokenLines (b withheld xs : List ℕ) : Type 0 where
   pub diagnosis : Diagnosis
-  pub diagnosed : Diagnosed b diagnosis
+  pub diagnosed : Diagnosed b withheld diagnosis
   pub is : xs ≡ diagnosisLines diagnosis

@@ -77,17 +77,17 @@ pub extern "C" fn isc_format(
 }
 
 #[no_mangle]
-pub extern "C" fn isc_mount(books: &mut [u8]) -> u32
-    ensures { λ r. ⌜ Mounted (now (books .entry)) r (now (books .exit)) ⌝ }
+pub extern "C" fn isc_mount(books: &mut [u8], withheld: &[u32]) -> u32
+    ensures { λ r. ⌜ Mounted (now (books .entry)) (now (withheld .entry)) r (now (books .exit)) ⌝ }
 {
-    mount(books)
+    mount(books, withheld)
 }
 
 #[no_mangle]
-pub extern "C" fn isc_dismount(books: &mut [u8]) -> u32
-    ensures { λ r. ⌜ Dismounted (now (books .entry)) r (now (books .exit)) ⌝ }
+pub extern "C" fn isc_dismount(books: &mut [u8], withheld: &[u32]) -> u32
+    ensures { λ r. ⌜ Dismounted (now (books .entry)) (now (withheld .entry)) r (now (books .exit)) ⌝ }
 {
-    dismount(books)
+    dismount(books, withheld)
 }
 
 // Hands back what a create answers.
@@ -109,6 +109,7 @@ fn hand_back_id(made: Created, id: &mut u32) -> u32
 #[no_mangle]
 pub extern "C" fn isc_create_fixed(
     books: &mut [u8],
+    withheld: &[u32],
     name: &[u8],
     size: i32,
     flag: i32,
@@ -116,65 +117,99 @@ pub extern "C" fn isc_create_fixed(
     date: &[u8],
     id: &mut u32,
 ) -> u32
-    ensures { λ r. ⌜ CreateOut (λ answer. CreatedFixed (now (books .entry)) (now (name .entry)) (amountOf size) (chosenTypes flag) kind (now (date .entry)) answer (now (books .exit))) r (now (id .exit)) ⌝ }
+    ensures { λ r. ⌜ CreateOut (λ answer. CreatedFixed (now (books .entry)) (now (withheld .entry)) (now (name .entry)) (amountOf size) (chosenTypes flag) kind (now (date .entry)) answer (now (books .exit))) r (now (id .exit)) ⌝ }
 {
-    let made = create_fixed(books, name, amount_of(size), chosen_types(flag), kind, date);
+    let made = create_fixed(
+        books,
+        withheld,
+        name,
+        amount_of(size),
+        chosen_types(flag),
+        kind,
+        date,
+    );
     hand_back_id(made, id)
 }
 
 #[no_mangle]
 pub extern "C" fn isc_create_variable(
     books: &mut [u8],
+    withheld: &[u32],
     name: &[u8],
     cell: i32,
     kind: u32,
     date: &[u8],
     id: &mut u32,
 ) -> u32
-    ensures { λ r. ⌜ CreateOut (λ answer. CreatedVariable (now (books .entry)) (now (name .entry)) (amountOf cell) kind (now (date .entry)) answer (now (books .exit))) r (now (id .exit)) ⌝ }
+    ensures { λ r. ⌜ CreateOut (λ answer. CreatedVariable (now (books .entry)) (now (withheld .entry)) (now (name .entry)) (amountOf cell) kind (now (date .entry)) answer (now (books .exit))) r (now (id .exit)) ⌝ }
 {
-    let made = create_variable(books, name, amount_of(cell), kind, date);
+    let made = create_variable(books, withheld, name, amount_of(cell), kind, date);
     hand_back_id(made, id)
 }
 
 #[no_mangle]
-pub extern "C" fn isc_grow(books: &mut [u8], id: u32, length: i32, date: &[u8]) -> u32
-    ensures { λ r. ⌜ Grew (now (books .entry)) id (amountOf length) (now (date .entry)) r (now (books .exit)) ⌝ }
+pub extern "C" fn isc_grow(
+    books: &mut [u8],
+    withheld: &[u32],
+    id: u32,
+    length: i32,
+    date: &[u8],
+) -> u32
+    ensures { λ r. ⌜ Grew (now (books .entry)) (now (withheld .entry)) id (amountOf length) (now (date .entry)) r (now (books .exit)) ⌝ }
 {
-    grow(books, id, amount_of(length), date)
+    grow(books, withheld, id, amount_of(length), date)
 }
 
 #[no_mangle]
 pub extern "C" fn isc_temporary_delete(
     books: &mut [u8],
+    withheld: &[u32],
     body: &mut [u8],
     id: u32,
     date: &[u8],
 ) -> u32
-    ensures { λ r. ⌜ Removed (now (books .entry)) (now (body .entry)) id (now (date .entry)) r (now (books .exit)) (now (body .exit)) ⌝ }
+    ensures { λ r. ⌜ Removed (now (books .entry)) (now (withheld .entry)) (now (body .entry)) id (now (date .entry)) r (now (books .exit)) (now (body .exit)) ⌝ }
 {
-    temporary_delete(books, body, id, date)
+    temporary_delete(books, withheld, body, id, date)
 }
 
 #[no_mangle]
-pub extern "C" fn isc_recover(books: &mut [u8], body: &mut [u8], id: u32, date: &[u8]) -> u32
-    ensures { λ r. ⌜ Recovered (now (books .entry)) (now (body .entry)) id (now (date .entry)) r (now (books .exit)) (now (body .exit)) ⌝ }
+pub extern "C" fn isc_recover(
+    books: &mut [u8],
+    withheld: &[u32],
+    body: &mut [u8],
+    id: u32,
+    date: &[u8],
+) -> u32
+    ensures { λ r. ⌜ Recovered (now (books .entry)) (now (withheld .entry)) (now (body .entry)) id (now (date .entry)) r (now (books .exit)) (now (body .exit)) ⌝ }
 {
-    recover(books, body, id, date)
+    recover(books, withheld, body, id, date)
 }
 
 #[no_mangle]
-pub extern "C" fn isc_actual_delete(books: &mut [u8], body: &mut [u8], id: u32, date: &[u8]) -> u32
-    ensures { λ r. ⌜ Deleted (now (books .entry)) (now (body .entry)) id (now (date .entry)) r (now (books .exit)) (now (body .exit)) ⌝ }
+pub extern "C" fn isc_actual_delete(
+    books: &mut [u8],
+    withheld: &[u32],
+    body: &mut [u8],
+    id: u32,
+    date: &[u8],
+) -> u32
+    ensures { λ r. ⌜ Deleted (now (books .entry)) (now (withheld .entry)) (now (body .entry)) id (now (date .entry)) r (now (books .exit)) (now (body .exit)) ⌝ }
 {
-    actual_delete(books, body, id, date)
+    actual_delete(books, withheld, body, id, date)
 }
 
 #[no_mangle]
-pub extern "C" fn isc_set_protection(books: &mut [u8], id: u32, protection: u32, date: &[u8]) -> u32
-    ensures { λ r. ⌜ Protected (now (books .entry)) id protection (now (date .entry)) r (now (books .exit)) ⌝ }
+pub extern "C" fn isc_set_protection(
+    books: &mut [u8],
+    withheld: &[u32],
+    id: u32,
+    protection: u32,
+    date: &[u8],
+) -> u32
+    ensures { λ r. ⌜ Protected (now (books .entry)) (now (withheld .entry)) id protection (now (date .entry)) r (now (books .exit)) ⌝ }
 {
-    set_protection(books, id, protection, date)
+    set_protection(books, withheld, id, protection, date)
 }
 
 // Hands back an answer with one value.
@@ -194,26 +229,44 @@ fn hand_back(answer: Answer, value: &mut u32) -> u32
 }
 
 #[no_mangle]
-pub extern "C" fn isc_search(books: &[u8], pattern: &[u8], ids: &mut [u32], count: &mut u32) -> u32
-    ensures { λ r. ⌜ AnswerOut (λ answer. Searched (now (books .entry)) (now (pattern .entry)) (now (ids .entry)) answer (now (ids .exit))) r (now (count .exit)) ⌝ }
+pub extern "C" fn isc_search(
+    books: &[u8],
+    withheld: &[u32],
+    pattern: &[u8],
+    ids: &mut [u32],
+    count: &mut u32,
+) -> u32
+    ensures { λ r. ⌜ AnswerOut (λ answer. Searched (now (books .entry)) (now (withheld .entry)) (now (pattern .entry)) (now (ids .entry)) answer (now (ids .exit))) r (now (count .exit)) ⌝ }
 {
-    let answer = search(books, pattern, ids);
+    let answer = search(books, withheld, pattern, ids);
     hand_back(answer, count)
 }
 
 #[no_mangle]
-pub extern "C" fn isc_list(books: &[u8], from: u32, entries: &mut [u8], count: &mut u32) -> u32
-    ensures { λ r. ⌜ AnswerOut (λ answer. Listed (now (books .entry)) from (now (entries .entry)) answer (now (entries .exit))) r (now (count .exit)) ⌝ }
+pub extern "C" fn isc_list(
+    books: &[u8],
+    withheld: &[u32],
+    from: u32,
+    entries: &mut [u8],
+    count: &mut u32,
+) -> u32
+    ensures { λ r. ⌜ AnswerOut (λ answer. Listed (now (books .entry)) (now (withheld .entry)) from (now (entries .entry)) answer (now (entries .exit))) r (now (count .exit)) ⌝ }
 {
-    let answer = list(books, from, entries);
+    let answer = list(books, withheld, from, entries);
     hand_back(answer, count)
 }
 
 #[no_mangle]
-pub extern "C" fn isc_locate(books: &[u8], id: u32, k: u32, sector: &mut u32) -> u32
-    ensures { λ r. ⌜ LocateOut (now (books .entry)) id k r (now (sector .exit)) ⌝ }
+pub extern "C" fn isc_locate(
+    books: &[u8],
+    withheld: &[u32],
+    id: u32,
+    k: u32,
+    sector: &mut u32,
+) -> u32
+    ensures { λ r. ⌜ LocateOut (now (books .entry)) (now (withheld .entry)) id k r (now (sector .exit)) ⌝ }
 {
-    let found = locate(books, id, k);
+    let found = locate(books, withheld, id, k);
     match found {
         Located::At(s) => {
             *sector = s.0;
@@ -227,10 +280,15 @@ pub extern "C" fn isc_locate(books: &[u8], id: u32, k: u32, sector: &mut u32) ->
 }
 
 #[no_mangle]
-pub extern "C" fn isc_space(books: &[u8], sectors: &mut u32, used: &mut u32) -> u32
-    ensures { λ r. ⌜ SpaceOut (now (books .entry)) r (now (sectors .exit)) (now (used .exit)) ⌝ }
+pub extern "C" fn isc_space(
+    books: &[u8],
+    withheld: &[u32],
+    sectors: &mut u32,
+    used: &mut u32,
+) -> u32
+    ensures { λ r. ⌜ SpaceOut (now (books .entry)) (now (withheld .entry)) r (now (sectors .exit)) (now (used .exit)) ⌝ }
 {
-    let found = space_of(books);
+    let found = space_of(books, withheld);
     match found {
         Space::Is(s, u) => {
             *sectors = s;
@@ -258,27 +316,33 @@ fn hand_back_text(t: Text, text: &mut [u8], count: &mut u32) -> u32
 }
 
 #[no_mangle]
-pub extern "C" fn isc_report(books: &[u8], text: &mut [u8], length: &mut u32) -> u32
-    ensures { λ r. ⌜ TextOut 192 (ReportLines (now (books .entry))) (now (text .entry)) r (now (text .exit)) (now (length .exit)) ⌝ }
+pub extern "C" fn isc_report(
+    books: &[u8],
+    withheld: &[u32],
+    text: &mut [u8],
+    length: &mut u32,
+) -> u32
+    ensures { λ r. ⌜ TextOut 192 (ReportLines (now (books .entry)) (now (withheld .entry))) (now (text .entry)) r (now (text .exit)) (now (length .exit)) ⌝ }
 {
     if text.len() < 192 {
         *length = 0;
         return 7;
     }
-    let t = report(books);
+    let t = report(books, withheld);
     hand_back_text(t, text, length)
 }
 
 #[no_mangle]
 pub extern "C" fn isc_broken_rule(
     books: &[u8],
+    withheld: &[u32],
     rule: &mut u32,
     kind: &mut u32,
     place: &mut u32,
 ) -> u32
-    ensures { λ r. ⌜ BrokenOut (now (books .entry)) r (now (rule .exit)) (now (kind .exit)) (now (place .exit)) ⌝ }
+    ensures { λ r. ⌜ BrokenOut (now (books .entry)) (now (withheld .entry)) r (now (rule .exit)) (now (kind .exit)) (now (place .exit)) ⌝ }
 {
-    let found = broken_rule(books);
+    let found = broken_rule(books, withheld);
     match found {
         Diagnosis::Found(f) => {
             *rule = rule_of(f);
@@ -296,20 +360,26 @@ pub extern "C" fn isc_broken_rule(
 }
 
 #[no_mangle]
-pub extern "C" fn isc_broken_text(books: &[u8], text: &mut [u8], length: &mut u32) -> u32
-    ensures { λ r. ⌜ TextOut 64 (BrokenLines (now (books .entry))) (now (text .entry)) r (now (text .exit)) (now (length .exit)) ⌝ }
+pub extern "C" fn isc_broken_text(
+    books: &[u8],
+    withheld: &[u32],
+    text: &mut [u8],
+    length: &mut u32,
+) -> u32
+    ensures { λ r. ⌜ TextOut 64 (BrokenLines (now (books .entry)) (now (withheld .entry))) (now (text .entry)) r (now (text .exit)) (now (length .exit)) ⌝ }
 {
     if text.len() < 64 {
         *length = 0;
         return 7;
     }
-    let t = broken_text(books);
+    let t = broken_text(books, withheld);
     hand_back_text(t, text, length)
 }
 
 #[no_mangle]
 pub extern "C" fn isc_read(
     books: &[u8],
+    withheld: &[u32],
     body: &[u8],
     id: u32,
     position: i32,
@@ -318,17 +388,18 @@ pub extern "C" fn isc_read(
     out: &mut [u8],
     moved: &mut u32,
 ) -> u32
-    ensures { λ r. ⌜ AnswerOut (λ answer. ReadOut (now (books .entry)) (now (body .entry)) id (amountOf position) (amountOf length) (asked exchange) (now (out .entry)) answer (now (out .exit))) r (now (moved .exit)) ⌝ }
+    ensures { λ r. ⌜ AnswerOut (λ answer. ReadOut (now (books .entry)) (now (withheld .entry)) (now (body .entry)) id (amountOf position) (amountOf length) (asked exchange) (now (out .entry)) answer (now (out .exit))) r (now (moved .exit)) ⌝ }
 {
     let at = amount_of(position);
     let long = amount_of(length);
-    let answer = read(books, body, id, at, long, exchange != 0, out);
+    let answer = read(books, withheld, body, id, at, long, exchange != 0, out);
     hand_back(answer, moved)
 }
 
 #[no_mangle]
 pub extern "C" fn isc_write(
     books: &mut [u8],
+    withheld: &[u32],
     body: &mut [u8],
     id: u32,
     position: i32,
@@ -338,52 +409,75 @@ pub extern "C" fn isc_write(
     date: &[u8],
     moved: &mut u32,
 ) -> u32
-    ensures { λ r. ⌜ AnswerOut (λ answer. Wrote (now (books .entry)) (now (body .entry)) id (amountOf position) (amountOf length) (asked exchange) (now (input .entry)) (now (date .entry)) answer (now (books .exit)) (now (body .exit))) r (now (moved .exit)) ⌝ }
+    ensures { λ r. ⌜ AnswerOut (λ answer. Wrote (now (books .entry)) (now (withheld .entry)) (now (body .entry)) id (amountOf position) (amountOf length) (asked exchange) (now (input .entry)) (now (date .entry)) answer (now (books .exit)) (now (body .exit))) r (now (moved .exit)) ⌝ }
 {
     let at = amount_of(position);
     let long = amount_of(length);
-    let answer = write(books, body, id, at, long, exchange != 0, input, date);
+    let answer = write(
+        books,
+        withheld,
+        body,
+        id,
+        at,
+        long,
+        exchange != 0,
+        input,
+        date,
+    );
     hand_back(answer, moved)
 }
 
 #[no_mangle]
-pub extern "C" fn isc_show_place(books: &[u8], body: &[u8], id: u32, k: u32) -> Part
-    ensures { λ r. ⌜ ShownAt (now (books .entry)) (now (body .entry)) id k r ⌝ }
+pub extern "C" fn isc_show_place(
+    books: &[u8],
+    withheld: &[u32],
+    body: &[u8],
+    id: u32,
+    k: u32,
+) -> Part
+    ensures { λ r. ⌜ ShownAt (now (books .entry)) (now (withheld .entry)) (now (body .entry)) id k r ⌝ }
 {
-    show_part(books, body, id, k)
+    show_part(books, withheld, body, id, k)
 }
 
 #[no_mangle]
-pub extern "C" fn isc_show_number(books: &[u8], body: &[u8], id: u32, k: u32) -> u32
-    ensures { λ r. ⌜ Gate (showTests (now (books .entry)) (now (body .entry)) id k) r ⌝ }
+pub extern "C" fn isc_show_number(
+    books: &[u8],
+    withheld: &[u32],
+    body: &[u8],
+    id: u32,
+    k: u32,
+) -> u32
+    ensures { λ r. ⌜ Gate (showTests (now (books .entry)) (now (withheld .entry)) (now (body .entry)) id k) r ⌝ }
 {
-    show_number(books, body, id, k)
+    show_number(books, withheld, body, id, k)
 }
 
 #[no_mangle]
 pub extern "C" fn isc_place_header(
     books: &mut [u8],
+    withheld: &[u32],
     body: &mut [u8],
     id: u32,
     content: &[u8],
     date: &[u8],
 ) -> u32
-    ensures { λ r. ⌜ HeaderPlaced (now (books .entry)) (now (body .entry)) id (now (content .entry)) (now (date .entry)) r (now (books .exit)) (now (body .exit)) ⌝ }
+    ensures { λ r. ⌜ HeaderPlaced (now (books .entry)) (now (withheld .entry)) (now (body .entry)) id (now (content .entry)) (now (date .entry)) r (now (books .exit)) (now (body .exit)) ⌝ }
 {
-    place_header(books, body, id, content, date)
+    place_header(books, withheld, body, id, content, date)
 }
 
 // A header: where it lies, as isc_show_place hands back a sector's place.
 #[no_mangle]
-pub extern "C" fn isc_header_place(books: &[u8], body: &[u8], id: u32) -> Part
-    ensures { λ r. ⌜ HeaderShownAt (now (books .entry)) (now (body .entry)) id r ⌝ }
+pub extern "C" fn isc_header_place(books: &[u8], withheld: &[u32], body: &[u8], id: u32) -> Part
+    ensures { λ r. ⌜ HeaderShownAt (now (books .entry)) (now (withheld .entry)) (now (body .entry)) id r ⌝ }
 {
-    header_part(books, body, id)
+    header_part(books, withheld, body, id)
 }
 
 #[no_mangle]
-pub extern "C" fn isc_header_number(books: &[u8], body: &[u8], id: u32) -> u32
-    ensures { λ r. ⌜ Gate (showHeaderTests (now (books .entry)) (now (body .entry)) id) r ⌝ }
+pub extern "C" fn isc_header_number(books: &[u8], withheld: &[u32], body: &[u8], id: u32) -> u32
+    ensures { λ r. ⌜ Gate (showHeaderTests (now (books .entry)) (now (withheld .entry)) (now (body .entry)) id) r ⌝ }
 {
-    header_number(books, body, id)
+    header_number(books, withheld, body, id)
 }

@@ -5,7 +5,7 @@ use requests::report::report;
 fn main() {
     let mut books = [0u8; 65537];
     let n = io::read_full(0, &mut books);
-    let t = report(&books[..n]);
+    let t = report(&books[..n], &[0u32; 0]);
     let length = t.length;
     let bytes = t.bytes;
     io::write_all(1, &bytes[..length]);

@@ -3,7 +3,7 @@
 use requests::report::report;
 
 fn show(books: &[u8]) {
-    let t = report(books);
+    let t = report(books, &[0u32; 0]);
     let length = t.length;
     let bytes = t.bytes;
     io::write_all(1, &bytes[..length]);

@@ -11,7 +11,7 @@ use lib.ListN.{length}
 use Rattle.field.specs.Says.{Says}
 use Rattle.field.proofs.Tests.{passed, refused, says-eq}
 use Rattle.tables.specs.declared.places.Places.{Places}
-use Rattle.tables.specs.Books.{Good, GoodWith}
+use Rattle.tables.specs.Books.{GoodSome, GoodWith}
 use Rattle.tables.specs.Gates.{Test, Gate}
 use Rattle.tables.specs.Indexes.{tableAt, headerStart, headerCount}
 use Rattle.tables.specs.Places.{placesOf, Layout}
@@ -40,47 +40,47 @@ module _ (b body : List ℕ) (ts : List Test) (r : Bool) (s : Says r (BodySized 
 
 -- ---- 1 to 5, 7, and 15
 
-module _ (b body : List ℕ) where
-  module _ (P : Type 0) (n : ℕ) (g : Gate (argumentTests b P) n) where
-    pub lent-stops : n ≢ 0 → Gate (lentTests b body P) n
+module _ (b withheld body : List ℕ) where
+  module _ (P : Type 0) (n : ℕ) (g : Gate (argumentTests b withheld P) n) where
+    pub lent-stops : n ≢ 0 → Gate (lentTests b withheld body P) n
     unfolding lentTests
-    lent-stops ne = gate-stop (argumentTests b P) (bodyTest b body ∷ []) n g ne
+    lent-stops ne = gate-stop (argumentTests b withheld P) (bodyTest b body ∷ []) n g ne
 
     module _ (e : n ≡ 0) (r : Bool) (s : Says r (BodySized b body)) where
-      pub lent-other : not r ≡ true → Gate (lentTests b body P) 15
+      pub lent-other : not r ≡ true → Gate (lentTests b withheld body P) 15
       unfolding lentTests
-      lent-other h = gate-skip (argumentTests b P) (bodyTest b body ∷ []) n 15 g e (body-other b body [] r s h)
+      lent-other h = gate-skip (argumentTests b withheld P) (bodyTest b body ∷ []) n 15 g e (body-other b body [] r s h)
 
-      pub lent-fine : not r ≡ false → Gate (lentTests b body P) 0
+      pub lent-fine : not r ≡ false → Gate (lentTests b withheld body P) 0
       unfolding lentTests
-      lent-fine h = gate-skip (argumentTests b P) (bodyTest b body ∷ []) n 0 g e (body-goes b body [] r s 0 h gate-end)
+      lent-fine h = gate-skip (argumentTests b withheld P) (bodyTest b body ∷ []) n 0 g e (body-goes b body [] r s 0 h gate-end)
 
   -- the answer of a test of P
-  pub lent-says : (r : Bool) (P : Type 0) (n : ℕ) → Says r P → Gate (lentTests b body (r ≡ true)) n → Gate (lentTests b body P) n
+  pub lent-says : (r : Bool) (P : Type 0) (n : ℕ) → Says r P → Gate (lentTests b withheld body (r ≡ true)) n → Gate (lentTests b withheld body P) n
   unfolding lentTests argumentTests useTests
-  lent-says r P n s g = gate-swap (useTests b) (bodyTest b body ∷ []) 7 (r ≡ true) P n (λ e. says-this r P s e) (λ p. this-says r P s p) g
+  lent-says r P n s g = gate-swap (useTests b withheld) (bodyTest b body ∷ []) 7 (r ≡ true) P n (λ e. says-this r P s e) (λ p. this-says r P s p) g
 
   -- what no number says
-  module _ (P : Type 0) (n : ℕ) (g : Gate (lentTests b body P) n) (e : n ≡ 0) where
-    lent-front : Gate (argumentTests b P) 0
+  module _ (P : Type 0) (n : ℕ) (g : Gate (lentTests b withheld body P) n) (e : n ≡ 0) where
+    lent-front : Gate (argumentTests b withheld P) 0
     unfolding lentTests
-    lent-front = gate-front (argumentTests b P) (bodyTest b body ∷ []) (rw e at g)
+    lent-front = gate-front (argumentTests b withheld P) (bodyTest b body ∷ []) (rw e at g)
 
     pub lent-allowed : P
-    lent-allowed = argument-allowed b P 0 lent-front refl
+    lent-allowed = argument-allowed b withheld P 0 lent-front refl
 
     pub lent-sized : BodySized b body
     unfolding lentTests
-    lent-sized = gate-head 15 (BodySized b body) [] (gate-rest (argumentTests b P) (bodyTest b body ∷ []) (rw e at g)) .0
+    lent-sized = gate-head 15 (BodySized b body) [] (gate-rest (argumentTests b withheld P) (bodyTest b body ∷ []) (rw e at g)) .0
 
-    pub lent-good : Good b (placesOf b)
-    lent-good = argument-good b P 0 lent-front refl
+    pub lent-good : GoodSome b (placesOf b)
+    lent-good = argument-good b withheld P 0 lent-front refl
 
-    pub lent-good-at : (p : Places) → p ≡ placesOf b → Good b p
+    pub lent-good-at : (p : Places) → p ≡ placesOf b → GoodSome b p
     lent-good-at p is = good-at b p lent-good is
 
     pub lent-room : 2048 ≤ length b
-    lent-room = good-room b (placesOf b) lent-good
+    lent-room = good-room b (placesOf b) (lent-good .1)
 
 -- ---- a file's header, where it has one, lies in a body of that length
 

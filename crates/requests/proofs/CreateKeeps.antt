@@ -52,19 +52,19 @@ made-keeps b p n counts g h new =
     quiet-good b (created p b n counts) p g (created-quiet p b n counts h new ready) (created-lawful p b n counts h new ready)
 
 -- both creates, done: where the arguments are allowed the file is lawful, and there is all that it takes
-pub creates-asks : (b : List ℕ) (P : Type 0) (counts : List ℕ) (n : New) (r : Created) (b' : List ℕ) {extra : ℕ → ℕ} → GoodWith extra b (placesOf b) → (P → NewLawful n counts × (length counts ≡ 6))
-    → Creates (argumentTests b P) b counts n r b' → numberOf r ≡ 0 → NewLawful n counts × ProvidedWith extra (placesOf b) b noPointer counts
-creates-asks b P counts n r b' g new h z =
+pub creates-asks : (b withheld : List ℕ) (P : Type 0) (counts : List ℕ) (n : New) (r : Created) (b' : List ℕ) {extra : ℕ → ℕ} → GoodWith extra b (placesOf b) → (P → NewLawful n counts × (length counts ≡ 6))
+    → Creates (argumentTests b withheld P) b counts n r b' → numberOf r ≡ 0 → NewLawful n counts × ProvidedWith extra (placesOf b) b noPointer counts
+creates-asks b withheld P counts n r b' g new h z =
     let q = rw z at (h .number) in
-    let a = new (argument-allowed b P 0 (gate-front (argumentTests b P) _ q) refl) in
-    (a .0, room-provides b (placesOf b) noPointer counts 0 g (a .1) (gate-rest (argumentTests b P) _ q) refl)
+    let a = new (argument-allowed b withheld P 0 (gate-front (argumentTests b withheld P) _ q) refl) in
+    (a .0, room-provides b (placesOf b) noPointer counts 0 g (a .1) (gate-rest (argumentTests b withheld P) _ q) refl)
 
-creates-keeps : (b : List ℕ) (P : Type 0) (counts : List ℕ) (n : New) (r : Created) (b' : List ℕ) (p : Places) {extra : ℕ → ℕ}
-    → (P → NewLawful n counts × (length counts ≡ 6)) → Creates (argumentTests b P) b counts n r b' → GoodWith extra b p → GoodWith extra b' p
-creates-keeps b P counts n r b' p new h g =
+creates-keeps : (b withheld : List ℕ) (P : Type 0) (counts : List ℕ) (n : New) (r : Created) (b' : List ℕ) (p : Places) {extra : ℕ → ℕ}
+    → (P → NewLawful n counts × (length counts ≡ 6)) → Creates (argumentTests b withheld P) b counts n r b' → GoodWith extra b p → GoodWith extra b' p
+creates-keeps b withheld P counts n r b' p new h g =
     done-keeps (numberOf r) (created (placesOf b) b n counts) b b' p (h .books) (λ z.
     (let here = rw (g .places) at g in
-    let a = creates-asks b P counts n r b' here new h z in
+    let a = creates-asks b withheld P counts n r b' here new h z in
     rw (g .places) (made-keeps b (placesOf b) n counts here (a .1) (a .0)))) g
 
 -- the weights of its attribute: not deleted, variable size as is said, one kind at most
@@ -106,9 +106,9 @@ fixed-lawful name (Is n) (Types w) kind date a =
     )
 
 -- "the rules still hold" (demand 3): after create fixed
-pub fixed-keeps : (b name : List ℕ) (size : Amount) (types : Chosen) (kind : ℕ) (date : List ℕ) (r : Created) (b' : List ℕ) (p : Places) {extra : ℕ → ℕ}
-    → CreatedFixed b name size types kind date r b' → GoodWith extra b p → GoodWith extra b' p
-fixed-keeps b name size types kind date r b' p = creates-keeps b _ _ _ r b' p (fixed-lawful name size types kind date)
+pub fixed-keeps : (b withheld name : List ℕ) (size : Amount) (types : Chosen) (kind : ℕ) (date : List ℕ) (r : Created) (b' : List ℕ) (p : Places) {extra : ℕ → ℕ}
+    → CreatedFixed b withheld name size types kind date r b' → GoodWith extra b p → GoodWith extra b' p
+fixed-keeps b withheld name size types kind date r b' p = creates-keeps b withheld _ _ _ r b' p (fixed-lawful name size types kind date)
 
 -- ---- create variable
 
@@ -123,9 +123,9 @@ variable-lawful name cell kind date a =
     )
 
 -- "the rules still hold" (demand 3): after create variable
-pub variable-keeps : (b name : List ℕ) (cell : Amount) (kind : ℕ) (date : List ℕ) (r : Created) (b' : List ℕ) (p : Places) {extra : ℕ → ℕ}
-    → CreatedVariable b name cell kind date r b' → GoodWith extra b p → GoodWith extra b' p
-variable-keeps b name cell kind date r b' p = creates-keeps b _ _ _ r b' p (variable-lawful name cell kind date)
+pub variable-keeps : (b withheld name : List ℕ) (cell : Amount) (kind : ℕ) (date : List ℕ) (r : Created) (b' : List ℕ) (p : Places) {extra : ℕ → ℕ}
+    → CreatedVariable b withheld name cell kind date r b' → GoodWith extra b p → GoodWith extra b' p
+variable-keeps b withheld name cell kind date r b' p = creates-keeps b withheld _ _ _ r b' p (variable-lawful name cell kind date)
 
 -- ---- grow
 
@@ -155,10 +155,10 @@ module _ (b : List ℕ) (id long : ℕ) (date : List ℕ) {extra : ℕ → ℕ} 
   ]
 
 -- "the rules still hold" (demand 3): after grow
-pub grew-keeps : (b : List ℕ) (id : ℕ) (long : Amount) (date : List ℕ) (r : ℕ) (b' : List ℕ) (p : Places) {extra : ℕ → ℕ} → Grew b id long date r b' → GoodWith extra b p → GoodWith extra b' p
-grew-keeps b id long date r b' p h g =
+pub grew-keeps : (b withheld : List ℕ) (id : ℕ) (long : Amount) (date : List ℕ) (r : ℕ) (b' : List ℕ) (p : Places) {extra : ℕ → ℕ} → Grew b withheld id long date r b' → GoodWith extra b p → GoodWith extra b' p
+grew-keeps b withheld id long date r b' p h g =
     done-keeps r (grownTo b id (amountValue long) date) b b' p (h .books) (λ z.
-    (let q : Gate (growTests b id long date) 0 = rw z at (h .number) in
-    let a = grow-allows b id long date 0 q refl in
-    rw (g .places) (grown-keeps b id (amountValue long) date (rw (g .places) at g) (grow-parent b id long date 0 q refl) (grow-room b id long date 0 q refl (amountValue long) refl) (a .date')
-    (λ l. (grow-variable b id long date 0 q refl, omega (arith, signed-most long (a .long'))))))) g
+    (let q : Gate (growTests b withheld id long date) 0 = rw z at (h .number) in
+    let a = grow-allows b withheld id long date 0 q refl in
+    rw (g .places) (grown-keeps b id (amountValue long) date (rw (g .places) at g) (grow-parent b withheld id long date 0 q refl) (grow-room b withheld id long date 0 q refl (amountValue long) refl) (a .date')
+    (λ l. (grow-variable b withheld id long date 0 q refl, omega (arith, signed-most long (a .long'))))))) g

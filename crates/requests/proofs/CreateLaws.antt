@@ -53,7 +53,7 @@ none-small l e = rw e (omega arith, omega arith)
 pub none-provides : (b : List ℕ) (p : Places) (l : Tail) (counts : List ℕ) (n : ℕ) {extra : ℕ → ℕ} → GoodWith extra b p → length counts ≡ 6 → l ≡ noPointer → Gate (roomTests p b l counts) n → n ≡ 0 → ProvidedWith extra p b noPointer counts
 none-provides b p l counts n g six e h z = rw e at (room-provides b p l counts n g six h z)
 
-module _ (b : List ℕ) (counts : List ℕ) (new : New) where
+module _ (b withheld : List ℕ) (counts : List ℕ) (new : New) where
   pub make-refused : (p : Places) (l : Tail) (n : ℕ) → p ≡ placesOf b → l ≡ noPointer → Gate (roomTests p b l counts) n → n ≢ 0 → Creates [] b counts new (Refused n) b
   make-refused p l zero e t g h = absurd (h refl)
   make-refused p l (suc k) e t g h = record { number = rw (e, t) at g; answer = refl; books = refl }
@@ -66,17 +66,17 @@ module _ (b : List ℕ) (counts : List ℕ) (new : New) where
     books = h ∙ ap (λ (q : Places). created q b new counts) e;
   }
 
-  module _ (P : Type 0) (a : Bool) (s : Says a P) (n : ℕ) (g : Gate (argumentTests b (a ≡ true)) n) where
-    pub create-stops : n ≢ 0 → Creates (argumentTests b P) b counts new (Refused n) b
+  module _ (P : Type 0) (a : Bool) (s : Says a P) (n : ℕ) (g : Gate (argumentTests b withheld (a ≡ true)) n) where
+    pub create-stops : n ≢ 0 → Creates (argumentTests b withheld P) b counts new (Refused n) b
     create-stops h = go n g h
       where
-        go : (m : ℕ) → Gate (argumentTests b (a ≡ true)) m → m ≢ 0 → Creates (argumentTests b P) b counts new (Refused m) b
+        go : (m : ℕ) → Gate (argumentTests b withheld (a ≡ true)) m → m ≢ 0 → Creates (argumentTests b withheld P) b counts new (Refused m) b
         go zero q h = absurd (h refl)
-        go (suc k) q h = record { number = gate-stop (argumentTests b P) _ (suc k) (argument-says b a P (suc k) s q) h; answer = refl; books = refl }
+        go (suc k) q h = record { number = gate-stop (argumentTests b withheld P) _ (suc k) (argument-says b withheld a P (suc k) s q) h; answer = refl; books = refl }
 
-    pub create-ends : (r : Created) (b' : List ℕ) → n ≡ 0 → Creates [] b counts new r b' → Creates (argumentTests b P) b counts new r b'
+    pub create-ends : (r : Created) (b' : List ℕ) → n ≡ 0 → Creates [] b counts new r b' → Creates (argumentTests b withheld P) b counts new r b'
     create-ends r b' e m = record {
-      number = gate-skip (argumentTests b P) _ n (numberOf r) (argument-says b a P n s g) e (m .number);
+      number = gate-skip (argumentTests b withheld P) _ n (numberOf r) (argument-says b withheld a P n s g) e (m .number);
       answer = m .answer;
       books = m .books;
     }

@@ -68,9 +68,9 @@ module _ (name : List ℕ) (size : Amount) (types : Chosen) (kind : ℕ) (date :
     pub fixed-says : (r : Bool) → not f ≡ false → Says r (HasCounts types size) → Says r (FixedAllowed name size types kind date)
     fixed-says r h s = says-map r (λ x. record { file = passed f file h; counted = x }) (λ a. a .counted) s
 
-module _ (b name : List ℕ) (size : Amount) (types : Chosen) (kind : ℕ) (date : List ℕ) (a : Bool) (s : Says a (FixedAllowed name size types kind date)) (n : ℕ) (g : Gate (argumentTests b (a ≡ true)) n) (e : n ≡ 0) where
+module _ (b withheld name : List ℕ) (size : Amount) (types : Chosen) (kind : ℕ) (date : List ℕ) (a : Bool) (s : Says a (FixedAllowed name size types kind date)) (n : ℕ) (g : Gate (argumentTests b withheld (a ≡ true)) n) (e : n ≡ 0) where
   fixed-allowed : FixedAllowed name size types kind date
-  fixed-allowed = argument-allowed b _ n (argument-says b a _ n s g) e
+  fixed-allowed = argument-allowed b withheld _ n (argument-says b withheld a _ n s g) e
 
   pub fixed-counted : HasCounts types size
   fixed-counted = fixed-allowed .counted
@@ -79,8 +79,8 @@ module _ (b name : List ℕ) (size : Amount) (types : Chosen) (kind : ℕ) (date
   fixed-new = fixed-allowed .file
 
   pub fixed-ends : (c : List ℕ) (x : ℕ) (r : Created) (b' : List ℕ) → c ≡ countsFor types size → x ≡ amountValue size
-      → Creates [] b c (record { name = name; date = date; length = x; attribute = attributeFor 0 kind }) r b' → CreatedFixed b name size types kind date r b'
-  fixed-ends c x r b' are is m = create-ends b _ _ _ a s n g r b' e (rw (are, is) at m)
+      → Creates [] b c (record { name = name; date = date; length = x; attribute = attributeFor 0 kind }) r b' → CreatedFixed b withheld name size types kind date r b'
+  fixed-ends c x r b' are is m = create-ends b withheld _ _ _ a s n g r b' e (rw (are, is) at m)
 
 -- ---- the cell
 
@@ -130,9 +130,9 @@ module _ (name : List ℕ) (cell : Amount) (kind : ℕ) (date : List ℕ) (f : B
   variable-says t h is low =
       le-says (VariableAllowed name cell kind date) t 8 (λ l. record { file = passed f file h; cell' = rw (← is) (record { low = low; high = l }) }) (λ a. let k : DataType t = rw is (a .cell') in k .high)
 
-module _ (b name : List ℕ) (cell : Amount) (kind : ℕ) (date : List ℕ) (a : Bool) (s : Says a (VariableAllowed name cell kind date)) (n : ℕ) (g : Gate (argumentTests b (a ≡ true)) n) (e : n ≡ 0) where
+module _ (b withheld name : List ℕ) (cell : Amount) (kind : ℕ) (date : List ℕ) (a : Bool) (s : Says a (VariableAllowed name cell kind date)) (n : ℕ) (g : Gate (argumentTests b withheld (a ≡ true)) n) (e : n ≡ 0) where
   variable-allowed : VariableAllowed name cell kind date
-  variable-allowed = argument-allowed b _ n (argument-says b a _ n s g) e
+  variable-allowed = argument-allowed b withheld _ n (argument-says b withheld a _ n s g) e
 
   pub variable-typed : (t : ℕ) → t ≡ cellType cell → DataType t
   variable-typed t is = rw is (variable-allowed .cell')
@@ -141,5 +141,5 @@ module _ (b name : List ℕ) (cell : Amount) (kind : ℕ) (date : List ℕ) (a :
   variable-new = variable-allowed .file
 
   pub variable-ends : (c : List ℕ) (t : ℕ) (r : Created) (b' : List ℕ) → c ≡ onlyCounts t 1 → t ≡ cellType cell
-      → Creates [] b c (record { name = name; date = date; length = 0; attribute = attributeFor 1 kind }) r b' → CreatedVariable b name cell kind date r b'
-  variable-ends c t r b' are is m = create-ends b _ _ _ a s n g r b' e (rw (are, is) at m)
+      → Creates [] b c (record { name = name; date = date; length = 0; attribute = attributeFor 1 kind }) r b' → CreatedVariable b withheld name cell kind date r b'
+  variable-ends c t r b' are is m = create-ends b withheld _ _ _ a s n g r b' e (rw (are, is) at m)

@@ -2,7 +2,7 @@
 use mathlib.Core.Path.{_≡_, refl, sym, ap₂, _∙_}
 use mathlib.Core.Logic.{inl, inr, _≢_}
 use mathlib.Core.Bool.{Bool, not, true, false}
-use mathlib.Core.List.{List}
+use mathlib.Core.List.{List, []}
 use Prim.Native.Nat.{ℕ, _≤_}
 use native.Mathlib.Omega.{arith}
 use lib.ListN.{length}
@@ -11,11 +11,14 @@ use Rattle.field.proofs.Tests.{passed, refused, says-map}
 use Rattle.tables.specs.declared.places.Places.{Places}
 use Rattle.tables.specs.Gates.{Gate}
 use Rattle.tables.specs.Dates.{Date}
-use Rattle.tables.specs.Books.{Sized, Good}
+use Rattle.tables.specs.Books.{Sized, Good, GoodWith}
 use Rattle.tables.specs.Rules.R1.{Stand}
+use Rattle.tables.specs.Rules.R7.{nothing}
+use Rattle.tables.specs.Views.{viewOf}
 use Rattle.tables.specs.Format.{Label, Formattable, Writable, freshPlaces, formatted}
 use Rattle.tables.proofs.GateLaws.{gate-one, gate-head}
 use Rattle.tables.proofs.PlaceLaws.{stand-layout}
+use Rattle.tables.proofs.WithheldLaws.{good-same, none-withheld, none-list}
 use Rattle.tables.proofs.FormatLaws.{format-length, format-marked, format-places, format-placed, format-lawful}
 use Rattle.requests.specs.declared.amount.Amount.{Amount}
 use Rattle.requests.specs.declared.amount.Amount.the-variants.{Below, Is}
@@ -123,7 +126,7 @@ formatted-one {b} {z} {n} {l} {r} {s} {x} {y} f g =
     (e, after-one r s x y _ b e (f .books) (g .books))
 
 -- books of an allowed size, formatted as is allowed
-fresh-good : (b : List ℕ) (z n : ℕ) (l : Label) → Sized b → Formattable (length b) z n → Writable l → Good (formatted (length b) z n l) (freshPlaces z n)
+fresh-good : (b : List ℕ) (z n : ℕ) (l : Label) → Sized b → Formattable (length b) z n → Writable l → GoodWith nothing (formatted (length b) z n l) (freshPlaces z n)
 fresh-good b z n l s f w =
     let len = format-length (length b) z n l (s .least) f w in
     record {
@@ -135,7 +138,9 @@ fresh-good b z n l s f w =
       lawful = format-lawful (length b) z n l (s .least) (s .most) f w;
     }
 
-pub formatted-good : (b : List ℕ) (z n : Amount) (l : Label) (b' : List ℕ) → Formatted b z n l 0 b' → Good b' (freshPlaces (amountValue z) (amountValue n))
+pub formatted-good : (b : List ℕ) (z n : Amount) (l : Label) (b' : List ℕ) → Formatted b z n l 0 b' → Good b' [] (freshPlaces (amountValue z) (amountValue n))
 formatted-good b z n l b' f =
     let a = zero-passes b z n l 0 (f .number) refl in
-    rw (f .books) (fresh-good b (amountValue z) (amountValue n) l (a .0) (fits-sizes (length b) z n (a .1 .0)) (a .1 .1))
+    let p = freshPlaces (amountValue z) (amountValue n) in
+    let good = fresh-good b (amountValue z) (amountValue n) l (a .0) (fits-sizes (length b) z n (a .1 .0)) (a .1 .1) in
+    rw (f .books) (record { list = none-list (viewOf p _); books = good-same _ p (none-withheld (viewOf p _)) good })

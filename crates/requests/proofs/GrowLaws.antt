@@ -11,7 +11,7 @@ use Rattle.field.proofs.Tests.{passed, refused, says-map}
 use Rattle.tables.specs.Dates.{Date}
 use Rattle.tables.specs.Places.{placesOf}
 use Rattle.tables.specs.Gates.{Gate}
-use Rattle.tables.specs.Books.{Good}
+use Rattle.tables.specs.Books.{GoodSome}
 use Rattle.tables.specs.Views.{viewOf, Parent}
 use Rattle.tables.proofs.GateLaws.{gate-one, gate-fails, gate-passes, gate-end, gate-stop, gate-skip, gate-rest, gate-head, gate-front}
 use Rattle.requests.specs.declared.amount.Amount.{Amount}
@@ -70,34 +70,34 @@ module _ (long : Amount) (date : List ℕ) where
 
 -- ---- the request
 
-module _ (b : List ℕ) (id : ℕ) (long : Amount) (date : List ℕ) where
-  module _ (a : Bool) (n : ℕ) (s : Says a (GrowAllowed long date)) (g : Gate (argumentTests b (a ≡ true)) n) where
-    pub grow-stops : n ≢ 0 → Gate (growTests b id long date) n
+module _ (b withheld : List ℕ) (id : ℕ) (long : Amount) (date : List ℕ) where
+  module _ (a : Bool) (n : ℕ) (s : Says a (GrowAllowed long date)) (g : Gate (argumentTests b withheld (a ≡ true)) n) where
+    pub grow-stops : n ≢ 0 → Gate (growTests b withheld id long date) n
     unfolding growTests
-    grow-stops ne = gate-stop (argumentTests b (GrowAllowed long date)) _ n (argument-says b a _ n s g) ne
+    grow-stops ne = gate-stop (argumentTests b withheld (GrowAllowed long date)) _ n (argument-says b withheld a _ n s g) ne
 
-    pub grow-goes : (r x : ℕ) → n ≡ 0 → x ≡ amountValue long → Gate (fileTests b id x) r → Gate (growTests b id long date) r
+    pub grow-goes : (r x : ℕ) → n ≡ 0 → x ≡ amountValue long → Gate (fileTests b id x) r → Gate (growTests b withheld id long date) r
     unfolding growTests
-    grow-goes r x e is h = gate-skip (argumentTests b (GrowAllowed long date)) _ n r (argument-says b a _ n s g) e (rw is at h)
+    grow-goes r x e is h = gate-skip (argumentTests b withheld (GrowAllowed long date)) _ n r (argument-says b withheld a _ n s g) e (rw is at h)
 
-  module _ (n : ℕ) (g : Gate (growTests b id long date) n) (e : n ≡ 0) where
-    front : Gate (argumentTests b (GrowAllowed long date)) 0
+  module _ (n : ℕ) (g : Gate (growTests b withheld id long date) n) (e : n ≡ 0) where
+    front : Gate (argumentTests b withheld (GrowAllowed long date)) 0
     unfolding growTests
-    front = gate-front (argumentTests b (GrowAllowed long date)) _ (rw e at g)
+    front = gate-front (argumentTests b withheld (GrowAllowed long date)) _ (rw e at g)
 
-    pub grow-books : Good b (placesOf b)
-    grow-books = argument-good b (GrowAllowed long date) 0 front refl
+    pub grow-books : GoodSome b (placesOf b)
+    grow-books = argument-good b withheld (GrowAllowed long date) 0 front refl
 
     pub grow-allows : GrowAllowed long date
-    grow-allows = argument-allowed b (GrowAllowed long date) 0 front refl
+    grow-allows = argument-allowed b withheld (GrowAllowed long date) 0 front refl
 
     tests : Gate (fileTests b id (amountValue long)) 0
     unfolding growTests
-    tests = gate-rest (argumentTests b (GrowAllowed long date)) _ (rw e at g)
+    tests = gate-rest (argumentTests b withheld (GrowAllowed long date)) _ (rw e at g)
 
     pub grow-parent : Parent (viewOf (placesOf b) b) id
     unfolding fileTests
-    grow-parent = named-parent b id (placesOf b) 0 grow-books (gate-front (namedTests b id) _ tests) refl
+    grow-parent = named-parent b id (placesOf b) 0 (grow-books .1) (gate-front (namedTests b id) _ tests) refl
 
     behind : Gate (kindTests b id ++ lackTests b id (amountValue long)) 0
     unfolding fileTests
@@ -113,15 +113,15 @@ module _ (b : List ℕ) (id : ℕ) (long : Amount) (date : List ℕ) where
     pub grow-date : length date ≡ 6
     grow-date = grow-allows .date' .long
 
-  pub grow-refused : (n : ℕ) → Gate (growTests b id long date) n → n ≢ 0 → Grew b id long date n b
+  pub grow-refused : (n : ℕ) → Gate (growTests b withheld id long date) n → n ≢ 0 → Grew b withheld id long date n b
   grow-refused n g h = record { number = g; books = after-refused n _ b h }
 
-  pub grow-done : (n x : ℕ) (b' : List ℕ) → Gate (growTests b id long date) n → n ≡ 0 → x ≡ amountValue long → b' ≡ grownTo b id x date → Grew b id long date 0 b'
+  pub grow-done : (n x : ℕ) (b' : List ℕ) → Gate (growTests b withheld id long date) n → n ≡ 0 → x ≡ amountValue long → b' ≡ grownTo b id x date → Grew b withheld id long date 0 b'
   grow-done n x b' g e is h = record { number = rw e at g; books = h ∙ ap (λ (m : ℕ). grownTo b id m date) is }
 
 -- ---- one result
 
-pub grew-one : (b : List ℕ) (id : ℕ) (long : Amount) (date : List ℕ) (r s : ℕ) (x y : List ℕ) → Grew b id long date r x → Grew b id long date s y → (r ≡ s) × (x ≡ y)
-grew-one b id long date r s x y h k =
-    let e = gate-one (growTests b id long date) r s (h .number) (k .number) in
+pub grew-one : (b withheld : List ℕ) (id : ℕ) (long : Amount) (date : List ℕ) (r s : ℕ) (x y : List ℕ) → Grew b withheld id long date r x → Grew b withheld id long date s y → (r ≡ s) × (x ≡ y)
+grew-one b withheld id long date r s x y h k =
+    let e = gate-one (growTests b withheld id long date) r s (h .number) (k .number) in
     (e, after-one r s x y _ b e (h .books) (k .books))

@@ -24,6 +24,7 @@ pub mod ListLaws
 pub mod ReadLaws
 pub mod WriteLaws
 pub mod WriteKeeps
+pub mod TypesKept
 pub mod ActiveLaws
 pub mod ArgumentLaws
 pub mod BodyLaws

@@ -147,7 +147,7 @@ filled-more p b from l i n r x x' lay hi h e g long =
 
 -- ---- the request
 
-module _ (b : List ℕ) (from : ℕ) (l : List ℕ) where
+module _ (b withheld : List ℕ) (from : ℕ) (l : List ℕ) where
   from-says : Says (leb 1 from) (1 ≤ from)
   from-says = go (leb 1 from) refl
     where
@@ -155,23 +155,23 @@ module _ (b : List ℕ) (from : ℕ) (l : List ℕ) where
       go true e = leb-true 1 from e
       go false e = λ h. let q = leb-false 1 from e in omega arith
 
-  pub list-refused : (n : ℕ) → Gate (argumentTests b (leb 1 from ≡ true)) n → n ≢ 0 → Listed b from l (Refused n) l
+  pub list-refused : (n : ℕ) → Gate (argumentTests b withheld (leb 1 from ≡ true)) n → n ≢ 0 → Listed b withheld from l (Refused n) l
   list-refused zero g h = absurd (h refl)
-  list-refused (suc k) g h = record { number = argument-says b (leb 1 from) (1 ≤ from) (suc k) from-says g; answer = refl; bytes = refl }
+  list-refused (suc k) g h = record { number = argument-says b withheld (leb 1 from) (1 ≤ from) (suc k) from-says g; answer = refl; bytes = refl }
 
-  pub list-done : (n m : ℕ) (p : Places) (l' : List ℕ) → Gate (argumentTests b (leb 1 from ≡ true)) n → n ≡ 0 → p ≡ placesOf b
+  pub list-done : (n m : ℕ) (p : Places) (l' : List ℕ) → Gate (argumentTests b withheld (leb 1 from ≡ true)) n → n ≡ 0 → p ≡ placesOf b
       → m ≡ length (take (length l / 64) (passing (isListed (viewOf p b) from) (p .indexes)))
-      → l' ≡ over l 0 (fronts (viewOf p b) (take (length l / 64) (passing (isListed (viewOf p b) from) (p .indexes)))) → Listed b from l (Done m) l'
+      → l' ≡ over l 0 (fronts (viewOf p b) (take (length l / 64) (passing (isListed (viewOf p b) from) (p .indexes)))) → Listed b withheld from l (Done m) l'
   unfolding listed
   list-done n m p l' g e h c f = record {
-    number = rw e at (argument-says b (leb 1 from) (1 ≤ from) n from-says g);
+    number = rw e at (argument-says b withheld (leb 1 from) (1 ≤ from) n from-says g);
     answer = ap Done (rw h at c);
     bytes = rw h at f;
   }
 
 -- ---- one result
 
-pub listed-one : (b : List ℕ) (from : ℕ) (entries : List ℕ) (r s : Answer) (x y : List ℕ) → Listed b from entries r x → Listed b from entries s y → (r ≡ s) × (x ≡ y)
-listed-one b from entries r s x y h k =
+pub listed-one : (b withheld : List ℕ) (from : ℕ) (entries : List ℕ) (r s : Answer) (x y : List ℕ) → Listed b withheld from entries r x → Listed b withheld from entries s y → (r ≡ s) × (x ≡ y)
+listed-one b withheld from entries r s x y h k =
     let e = gate-one _ (numberOf r) (numberOf s) (h .number) (k .number) in
     (answers-one r s _ _ (h .answer) (k .answer) e refl, after-one (numberOf r) (numberOf s) x y _ entries e (h .bytes) (k .bytes))

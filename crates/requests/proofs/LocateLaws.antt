@@ -10,7 +10,7 @@ use Rattle.tables.specs.declared.places.Places.{Places}
 use Rattle.tables.specs.declared.kinds.Sector.{Sector}
 use Rattle.tables.specs.Places.{placesOf}
 use Rattle.tables.specs.Gates.{Test, asks, Gate}
-use Rattle.tables.specs.Books.{Good, GoodWith}
+use Rattle.tables.specs.Books.{GoodSome, GoodWith}
 use Rattle.tables.specs.Rules.R8.{fileSectors}
 use Rattle.tables.specs.Views.{viewOf, Parent}
 use Rattle.tables.proofs.GateLaws.{gate-one, gate-fails, gate-passes, gate-end, gate-stop, gate-skip, gate-rest, gate-head, gate-front}
@@ -71,26 +71,26 @@ module _ (b : List ℕ) (p : Places) (f k : ℕ) {extra : ℕ → ℕ} (g : Good
 
 -- ---- locate
 
-pub locate-refused : (b : List ℕ) (id k n : ℕ) → Gate (locateTests b id k) n → n ≢ 0 → Locates b id k (Refused n)
-locate-refused b id k zero h ne = absurd (ne refl)
-locate-refused b id k (suc n) h ne = record { number = h; answer = refl }
+pub locate-refused : (b withheld : List ℕ) (id k n : ℕ) → Gate (locateTests b withheld id k) n → n ≢ 0 → Locates b withheld id k (Refused n)
+locate-refused b withheld id k zero h ne = absurd (ne refl)
+locate-refused b withheld id k (suc n) h ne = record { number = h; answer = refl }
 
-module _ (b : List ℕ) (id k n : ℕ) (h : Gate (locateTests b id k) n) (e : n ≡ 0) where
-  locate-file : Good b (placesOf b) × (Parent (viewOf (placesOf b) b) id × HasSector b id k)
+module _ (b withheld : List ℕ) (id k n : ℕ) (h : Gate (locateTests b withheld id k) n) (e : n ≡ 0) where
+  locate-file : GoodSome b (placesOf b) × (Parent (viewOf (placesOf b) b) id × HasSector b id k)
   unfolding locateTests
   locate-file =
-      let q : Gate (locateTests b id k) 0 = rw e at h in
-      let s = sector-has b id k (namedTests b id) (gate-rest (useTests b) _ q) in
-      (used-good b _ q, (state-file b id 0 (s .0) .0, s .1))
+      let q : Gate (locateTests b withheld id k) 0 = rw e at h in
+      let s = sector-has b id k (namedTests b id) (gate-rest (useTests b withheld) _ q) in
+      (used-good b withheld _ q, (state-file b id 0 (s .0) .0, s .1))
 
   pub locate-room : 2048 ≤ length b
-  locate-room = good-room b (placesOf b) (locate-file .0)
+  locate-room = good-room b (placesOf b) (locate-file .0 .1)
 
   module _ (p : Places) (is : p ≡ placesOf b) where
-    pub locate-asks : Good b p × (Parent (viewOf p b) id × (k < fileSectors (viewOf p b) id))
+    pub locate-asks : GoodSome b p × (Parent (viewOf p b) id × (k < fileSectors (viewOf p b) id))
     locate-asks = rw is locate-file
 
-    pub locate-done : (s : Sector) → s .0 ≡ kthSector (viewOf p b) id k → Locates b id k (At s)
+    pub locate-done : (s : Sector) → s .0 ≡ kthSector (viewOf p b) id k → Locates b withheld id k (At s)
     locate-done s at = record { number = rw e at h; answer = ap (λ (x : ℕ). At (record { 0 = x })) (at ∙ ap (λ (x : Places). kthSector (viewOf x b) id k) is) }
 
 -- ---- a part of the body: n is the number, and c sectors from s on are shown
@@ -108,62 +108,62 @@ module _ (body : List ℕ) (s c : ℕ) where
 
 -- ---- show
 
-pub show-refused : (b body : List ℕ) (id k n : ℕ) → Gate (showTests b body id k) n → n ≢ 0 → ShownAt b body id k (record { at = 0; len = 0 })
-show-refused b body id k zero h ne = absurd (ne refl)
-show-refused b body id k (suc n) h ne = record { number = suc n; gate = h; part = refl }
+pub show-refused : (b withheld body : List ℕ) (id k n : ℕ) → Gate (showTests b withheld body id k) n → n ≢ 0 → ShownAt b withheld body id k (record { at = 0; len = 0 })
+show-refused b withheld body id k zero h ne = absurd (ne refl)
+show-refused b withheld body id k (suc n) h ne = record { number = suc n; gate = h; part = refl }
 
-module _ (b body : List ℕ) (id k : ℕ) where
-  module _ (h : Gate (showTests b body id k) 0) where
+module _ (b withheld body : List ℕ) (id k : ℕ) where
+  module _ (h : Gate (showTests b withheld body id k) 0) where
     rest : BodySized b body × Gate (sectorTests b id k (usableTests 8 b id)) 0
     unfolding showTests
-    rest = gate-head 15 (BodySized b body) _ (gate-rest (useTests b) _ h)
+    rest = gate-head 15 (BodySized b body) _ (gate-rest (useTests b withheld) _ h)
 
-    show-file : Good b (placesOf b) × (Parent (viewOf (placesOf b) b) id × HasSector b id k)
+    show-file : GoodSome b (placesOf b) × (Parent (viewOf (placesOf b) b) id × HasSector b id k)
     unfolding showTests
-    show-file = let s = sector-has b id k (usableTests 8 b id) (rest .1) in (used-good b _ h, (usable-active 8 b id (s .0) .0, s .1))
+    show-file = let s = sector-has b id k (usableTests 8 b id) (rest .1) in (used-good b withheld _ h, (usable-active 8 b id (s .0) .0, s .1))
 
     -- its sector lies in the body
     show-inside : bodyPlace (kthOf b id k) + 1024 * 1 ≤ length body
     show-inside =
         let g = show-file .0 in
-        let s = kth-inside (placesOf b) b (g .layout) (g .lawful) id (show-file .1 .0) k (show-file .1 .1) in
-        omega (arith, s .0, s .1, rest .0, g .layout .least)
+        let s = kth-inside (placesOf b) b (g .1 .layout) (g .1 .lawful) id (show-file .1 .0) k (show-file .1 .1) in
+        omega (arith, s .0, s .1, rest .0, g .1 .layout .least)
 
-  module _ (n : ℕ) (h : Gate (showTests b body id k) n) (e : n ≡ 0) where
+  module _ (n : ℕ) (h : Gate (showTests b withheld body id k) n) (e : n ≡ 0) where
     pub show-room : 2048 ≤ length b
-    show-room = good-room b (placesOf b) (show-file (rw e at h) .0)
+    show-room = good-room b (placesOf b) (show-file (rw e at h) .0 .1)
 
     module _ (p : Places) (is : p ≡ placesOf b) where
-      pub show-asks : Good b p × (Parent (viewOf p b) id × (k < fileSectors (viewOf p b) id))
+      pub show-asks : GoodSome b p × (Parent (viewOf p b) id × (k < fileSectors (viewOf p b) id))
       show-asks = rw is (show-file (rw e at h))
 
-      pub show-placed : (s a : ℕ) → s ≡ kthSector (viewOf p b) id k → a ≡ bodyPlace s → ShownAt b body id k (record { at = a; len = 1024 })
+      pub show-placed : (s a : ℕ) → s ≡ kthSector (viewOf p b) id k → a ≡ bodyPlace s → ShownAt b withheld body id k (record { at = a; len = 1024 })
       show-placed s a at place = record {
         number = 0;
         gate = rw e at h;
         part = ap (λ (x : ℕ). record { at = x; len = 1024 }) (place ∙ ap bodyPlace (at ∙ ap (λ (x : Places). kthSector (viewOf x b) id k) is));
       }
 
-  module _ (r : Part) (h : ShownAt b body id k r) where
+  module _ (r : Part) (h : ShownAt b withheld body id k r) where
     pub shown-inside : r .at + r .len ≤ length body
     shown-inside = part-inside body (kthOf b id k) 1 (h .number) r (h .part) (λ z. show-inside (rw z at (h .gate)))
 
-    pub shown-part : Shown b body id k (take (r .at + r .len - r .at) (drop (r .at) body))
+    pub shown-part : Shown b withheld body id k (take (r .at + r .len - r .at) (drop (r .at) body))
     shown-part = record { number = h .number; gate = h .gate; bytes = part-bytes body (kthOf b id k) 1 (h .number) r (h .part) }
 
 -- ---- one result
 
-pub located-one : (b : List ℕ) (id k : ℕ) (r s : Located) → Locates b id k r → Locates b id k s → r ≡ s
-located-one b id k r s h l =
-    let e = gate-one (locateTests b id k) (numberOf r) (numberOf s) (h .number) (l .number) in
+pub located-one : (b withheld : List ℕ) (id k : ℕ) (r s : Located) → Locates b withheld id k r → Locates b withheld id k s → r ≡ s
+located-one b withheld id k r s h l =
+    let e = gate-one (locateTests b withheld id k) (numberOf r) (numberOf s) (h .number) (l .number) in
     h .answer ∙ ap (λ (n : ℕ). locatedAs n (kthOf b id k)) e ∙ sym (l .answer)
 
-pub shown-at-one : (b body : List ℕ) (id k : ℕ) (r s : Part) → ShownAt b body id k r → ShownAt b body id k s → r ≡ s
-shown-at-one b body id k r s h l =
-    let e = gate-one (showTests b body id k) (h .number) (l .number) (h .gate) (l .gate) in
+pub shown-at-one : (b withheld body : List ℕ) (id k : ℕ) (r s : Part) → ShownAt b withheld body id k r → ShownAt b withheld body id k s → r ≡ s
+shown-at-one b withheld body id k r s h l =
+    let e = gate-one (showTests b withheld body id k) (h .number) (l .number) (h .gate) (l .gate) in
     h .part ∙ ap (λ (n : ℕ). partOf n (kthOf b id k) 1) e ∙ sym (l .part)
 
-pub shown-one : (b body : List ℕ) (id k : ℕ) (x y : List ℕ) → Shown b body id k x → Shown b body id k y → x ≡ y
-shown-one b body id k x y h l =
-    let e = gate-one (showTests b body id k) (h .number) (l .number) (h .gate) (l .gate) in
+pub shown-one : (b withheld body : List ℕ) (id k : ℕ) (x y : List ℕ) → Shown b withheld body id k x → Shown b withheld body id k y → x ≡ y
+shown-one b withheld body id k x y h l =
+    let e = gate-one (showTests b withheld body id k) (h .number) (l .number) (h .gate) (l .gate) in
     h .bytes ∙ ap (λ (n : ℕ). bytesOf n body (kthOf b id k) 1) e ∙ sym (l .bytes)

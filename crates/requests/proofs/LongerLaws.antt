@@ -10,7 +10,7 @@ use Rattle.tables.specs.declared.places.Places.{Places}
 use Rattle.tables.specs.Indexes.{tableAt, lengthOf}
 use Rattle.tables.specs.Places.{placesOf, Layout}
 use Rattle.tables.specs.Gates.{Gate}
-use Rattle.tables.specs.Books.{Good, GoodWith}
+use Rattle.tables.specs.Books.{GoodSome, GoodWith}
 use Rattle.tables.specs.Rules.R8.{fileType}
 use Rattle.tables.specs.Views.{viewOf, Parent}
 use Rattle.tables.proofs.GateLaws.{gate-passes, gate-end, gate-head}
@@ -19,7 +19,7 @@ use Rattle.allocation.proofs.SizeLaws.{type-typed}
 use Rattle.allocation.proofs.FileLaws.{cursor-bounds, length-only}
 use Rattle.allocation.specs.declared.growth.Cursor.{Cursor}
 use Rattle.allocation.specs.Last.{cursorOf}
-use Rattle.allocation.specs.MadeFiles.{onlyCounts, Provided, blocksFor, grown, ProvidedWith}
+use Rattle.allocation.specs.MadeFiles.{onlyCounts, ProvidedSome, blocksFor, grown, ProvidedWith}
 use Rattle.requests.specs.Create.{roomTests}
 use Rattle.requests.specs.Named.{fileBytes}
 use Rattle.requests.specs.Grow.{growCounts, lackTests, grownTo}
@@ -79,16 +79,16 @@ module _ (b : List ℕ) (p : Places) (id long : ℕ) (is : p ≡ placesOf b) (t 
   lengthen-done date c b' lt are h = rw (lt-ltb (lengthOf (fileBytes b id)) long (omega (arith, old))) (rw (are, is) at h)
 
   -- what adding its blocks asks
-  pub lengthen-adds : (c : List ℕ) → Good b (placesOf b) → Gate (lackTests b id long) 0 → n < long → c ≡ growCounts b id long → Provided p b (cursorOf p b id .tail) c
-  lengthen-adds c g h lt are = rw (are, is) (lack-provided b id long g h (omega (arith, old)))
+  pub lengthen-adds : (c : List ℕ) → GoodSome b (placesOf b) → Gate (lackTests b id long) 0 → n < long → c ≡ growCounts b id long → ProvidedSome p b (cursorOf p b id .tail) c
+  lengthen-adds c g h lt are = (g .0, rw (are, is) (lack-provided b id long (g .1) h (omega (arith, old))))
 
 -- what reading the file's table and counting its blocks ask
-module _ (b : List ℕ) (p : Places) (id : ℕ) (is : p ≡ placesOf b) (g : Good b (placesOf b)) (parent : Parent (viewOf (placesOf b) b) id) where
-  pub lengthen-good : Good b p
+module _ (b : List ℕ) (p : Places) (id : ℕ) (is : p ≡ placesOf b) (g : GoodSome b (placesOf b)) (parent : Parent (viewOf (placesOf b) b) id) where
+  pub lengthen-good : GoodSome b p
   lengthen-good = rw is g
 
   pub lengthen-layout : Layout p (length b)
-  lengthen-layout = lengthen-good .layout
+  lengthen-layout = lengthen-good .1 .layout
 
   pub lengthen-parent : Parent (viewOf p b) id
   lengthen-parent = rw is parent

@@ -39,8 +39,8 @@ flag-keeps b p f few g =
     (omega (arith, flag-put b f (good-room b p g)))
     (g .lawful .r9)) g
 
-pub mounted-keeps : (b : List ℕ) (r : ℕ) (b' : List ℕ) (p : Places) {extra : ℕ → ℕ} → Mounted b r b' → GoodWith extra b p → GoodWith extra b' p
-mounted-keeps b r b' p h g = done-keeps r (putFlag b 1) b b' p (h .books) (λ e. flag-keeps b p 1 (omega arith) g) g
+pub mounted-keeps : (b withheld : List ℕ) (r : ℕ) (b' : List ℕ) (p : Places) {extra : ℕ → ℕ} → Mounted b withheld r b' → GoodWith extra b p → GoodWith extra b' p
+mounted-keeps b withheld r b' p h g = done-keeps r (putFlag b 1) b b' p (h .books) (λ e. flag-keeps b p 1 (omega arith) g) g
 
-pub dismounted-keeps : (b : List ℕ) (r : ℕ) (b' : List ℕ) (p : Places) {extra : ℕ → ℕ} → Dismounted b r b' → GoodWith extra b p → GoodWith extra b' p
-dismounted-keeps b r b' p h g = done-keeps r (putFlag b 0) b b' p (h .books) (λ e. flag-keeps b p 0 (omega arith) g) g
+pub dismounted-keeps : (b withheld : List ℕ) (r : ℕ) (b' : List ℕ) (p : Places) {extra : ℕ → ℕ} → Dismounted b withheld r b' → GoodWith extra b p → GoodWith extra b' p
+dismounted-keeps b withheld r b' p h g = done-keeps r (putFlag b 0) b b' p (h .books) (λ e. flag-keeps b p 0 (omega arith) g) g

@@ -15,7 +15,7 @@ use Rattle.tables.specs.Entries.{entryOf, isParent, isVariable}
 use Rattle.tables.specs.Indexes.{tableAt, wordOf, attributeOf, deletedBit}
 use Rattle.tables.specs.Places.{placesOf}
 use Rattle.tables.specs.Gates.{asks, Gate}
-use Rattle.tables.specs.Books.{Good, GoodWith}
+use Rattle.tables.specs.Books.{GoodSome, GoodWith}
 use Rattle.tables.specs.Views.{viewOf, Parent}
 use Rattle.tables.proofs.GateLaws.{gate-fails, gate-passes, gate-end, gate-stop, gate-skip, gate-head, gate-front, gate-swap}
 use Rattle.requests.specs.Answers.{useTests, argumentTests}
@@ -80,18 +80,18 @@ module _ (b : List ℕ) (id : ℕ) where
 
 -- ---- 1 to 5, 7, 8 and 9
 
-module _ (d : ℕ) (b : List ℕ) (id : ℕ) where
-  module _ (P : Type 0) (n : ℕ) (g : Gate (argumentTests b P) n) where
-    pub asked-stops : n ≢ 0 → Gate (askedTests d b P id) n
-    asked-stops ne = gate-stop (argumentTests b P) _ n g ne
+module _ (d : ℕ) (b withheld : List ℕ) (id : ℕ) where
+  module _ (P : Type 0) (n : ℕ) (g : Gate (argumentTests b withheld P) n) where
+    pub asked-stops : n ≢ 0 → Gate (askedTests d b withheld P id) n
+    asked-stops ne = gate-stop (argumentTests b withheld P) _ n g ne
 
-    pub asked-goes : (r : ℕ) → n ≡ 0 → Gate (stateTests d b id) r → Gate (askedTests d b P id) r
-    asked-goes r e h = gate-skip (argumentTests b P) _ n r g e h
+    pub asked-goes : (r : ℕ) → n ≡ 0 → Gate (stateTests d b id) r → Gate (askedTests d b withheld P id) r
+    asked-goes r e h = gate-skip (argumentTests b withheld P) _ n r g e h
 
   -- the answer of a test of P
-  pub asked-says : (a : Bool) (P : Type 0) (n : ℕ) → Says a P → Gate (askedTests d b (a ≡ true) id) n → Gate (askedTests d b P id) n
+  pub asked-says : (a : Bool) (P : Type 0) (n : ℕ) → Says a P → Gate (askedTests d b withheld (a ≡ true) id) n → Gate (askedTests d b withheld P id) n
   unfolding argumentTests useTests
-  asked-says a P n s g = gate-swap (useTests b) (stateTests d b id) 7 (a ≡ true) P n (λ e. says-this a P s e) (λ p. this-says a P s p) g
+  asked-says a P n s g = gate-swap (useTests b withheld) (stateTests d b id) 7 (a ≡ true) P n (λ e. says-this a P s e) (λ p. this-says a P s p) g
 
 -- ---- a file's weights
 
@@ -136,6 +136,6 @@ module _ (w : ℕ) (b : List ℕ) (id : ℕ) where
     unfolding usableTests
     usable-active = state-file b id 0 (gate-front (namedTests b id) _ h)
 
-  module _ (p : Places) (n : ℕ) (g : Good b p) (h : Gate (usableTests w b id) n) (e : n ≡ 0) where
+  module _ (p : Places) (n : ℕ) (g : GoodSome b p) (h : Gate (usableTests w b id) n) (e : n ≡ 0) where
     pub usable-parent : Parent (viewOf p b) id
-    usable-parent = rw (g .places) (usable-active (rw e at h) .0)
+    usable-parent = rw (g .1 .places) (usable-active (rw e at h) .0)

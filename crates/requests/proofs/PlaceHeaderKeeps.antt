@@ -9,7 +9,7 @@ use lib.ListN.{length, getD}
 use Rattle.field.proofs.NumberLaws.{u16-kept, u32-kept}
 use Rattle.field.proofs.PartLaws.{length-over}
 use Rattle.tables.specs.declared.places.Places.{Places}
-use Rattle.tables.specs.Books.{Good, GoodWith}
+use Rattle.tables.specs.Books.{GoodSome, GoodWith}
 use Rattle.tables.specs.Dates.{Date}
 use Rattle.tables.specs.Gates.{Gate}
 use Rattle.tables.specs.Indexes.{tableAt, attributeOf, headerStart, headerCount}
@@ -89,24 +89,24 @@ module _ (b : List ℕ) (id n : ℕ) (date : List ℕ) {extra : ℕ → ℕ} (g 
 
 -- ---- the request done, d being the books then
 
-module _ (b body : List ℕ) (id : ℕ) (content date : List ℕ) (r : ℕ) (gate : Gate (placeHeaderTests b body id (length content) date) r) (z : r ≡ 0) where
+module _ (b withheld body : List ℕ) (id : ℕ) (content date : List ℕ) (r : ℕ) (gate : Gate (placeHeaderTests b withheld body id (length content) date) r) (z : r ≡ 0) where
   abbrev n : ℕ
   n = headerSectors (length content)
 
   count : (1 ≤ n) × (n ≤ 32)
-  count = placed-count b body id (length content) date r gate z
+  count = placed-count b withheld body id (length content) date r gate z
 
-  good : Good b (placesOf b)
-  good = placed-good b body id (length content) date r gate z
+  good : GoodSome b (placesOf b)
+  good = placed-good b withheld body id (length content) date r gate z
 
   file : Parent (viewOf (placesOf b) b) id
-  file = placed-file b body id (length content) date r gate z
+  file = placed-file b withheld body id (length content) date r gate z
 
   room : headerPlace (viewOf (placesOf b) b) n .zone .0 < placesOf b .zones
-  room = placed-high b body id (length content) date r gate z
+  room = placed-high b withheld body id (length content) date r gate z
 
   valid : Date date
-  valid = placed-valid b body id (length content) date r gate z .date'
+  valid = placed-valid b withheld body id (length content) date r gate z .date'
 
   -- the rules hold, whatever is set besides
   pub header-placed-good : {extra : ℕ → ℕ} → GoodWith extra b (placesOf b) → GoodWith extra (headerPlaced b id n date) (placesOf b)
@@ -115,20 +115,20 @@ module _ (b body : List ℕ) (id : ℕ) (content date : List ℕ) (r : ℕ) (gat
   -- the file with its header, restated
   pub header-placed-restates : Parent (viewOf (placesOf b) (headed (placesOf b) b id n)) id
       × Restated (viewOf (placesOf b) (headed (placesOf b) b id n)) (viewOf (placesOf b) (headerPlaced b id n date)) id
-  header-placed-restates = (h-parent b id n date good file (count .0) (count .1) room valid, stamped-restated b id n date good file (count .0) (count .1) room valid)
+  header-placed-restates = (h-parent b id n date (good .1) file (count .0) (count .1) room valid, stamped-restated b id n date (good .1) file (count .0) (count .1) room valid)
 
   module _ (d : List ℕ) (is : d ≡ headerPlaced b id n date) where
     pub header-placed-untouched : Untouched (viewOf (placesOf b) b) (viewOf (placesOf b) d) id
-    header-placed-untouched = rw is (stamped-untouched b id n date good file (count .0) (count .1) room valid)
+    header-placed-untouched = rw is (stamped-untouched b id n date (good .1) file (count .0) (count .1) room valid)
 
     pub header-placed-places : SamePlaces (viewOf (placesOf b) b) (viewOf (placesOf b) d) id
-    header-placed-places = rw is (stamped-places b id n date good file (count .0) (count .1) room valid)
+    header-placed-places = rw is (stamped-places b id n date (good .1) file (count .0) (count .1) room valid)
 
     pub header-placed-start : headerStart (tableAt (placesOf b) d id) ≡ runStart (headerPlace (viewOf (placesOf b) b) n)
-    header-placed-start = rw is (stamped-start b id n date good file (count .0) (count .1) room valid)
+    header-placed-start = rw is (stamped-start b id n date (good .1) file (count .0) (count .1) room valid)
 
     pub header-placed-count : headerCount (tableAt (placesOf b) d id) ≡ n
-    header-placed-count = rw is (stamped-count b id n date good file (count .0) (count .1) room valid)
+    header-placed-count = rw is (stamped-count b id n date (good .1) file (count .0) (count .1) room valid)
 
     pub header-placed-parent : Parent (viewOf (placesOf b) d) id
     header-placed-parent =
@@ -140,24 +140,24 @@ module _ (b body : List ℕ) (id : ℕ) (content date : List ℕ) (r : ℕ) (gat
   unfolding headedBody
   headed-body-long =
       let k = headerPlace (viewOf (placesOf b) b) n in
-      let inside = placed-inside b body id (length content) date r gate z .1 in
+      let inside = placed-inside b withheld body id (length content) date r gate z .1 in
       length-headerMarked (viewOf (placesOf b) b) id 0 _
       ∙ length-over body (bodyPlace (runStart k)) (headerBytes id content) (omega (arith, inside, length-headerBytes id content))
 
 -- ---- the promise
 
 -- the books then
-pub header-placed-is : (b body : List ℕ) (id : ℕ) (content date : List ℕ) (r : ℕ) (b' body' : List ℕ) → HeaderPlaced b body id content date r b' body' → r ≡ 0
+pub header-placed-is : (b withheld body : List ℕ) (id : ℕ) (content date : List ℕ) (r : ℕ) (b' body' : List ℕ) → HeaderPlaced b withheld body id content date r b' body' → r ≡ 0
     → b' ≡ headerPlaced b id (headerSectors (length content)) date
-header-placed-is b body id content date r b' body' h z = h .books ∙ ap (λ (x : ℕ). after x (headerPlaced b id (headerSectors (length content)) date) b) z
+header-placed-is b withheld body id content date r b' body' h z = h .books ∙ ap (λ (x : ℕ). after x (headerPlaced b id (headerSectors (length content)) date) b) z
 
 -- "the rules still hold" (demand 3)
-pub header-placed-keeps : (b body : List ℕ) (id : ℕ) (content date : List ℕ) (r : ℕ) (b' body' : List ℕ) (p : Places) {extra : ℕ → ℕ} → HeaderPlaced b body id content date r b' body'
+pub header-placed-keeps : (b withheld body : List ℕ) (id : ℕ) (content date : List ℕ) (r : ℕ) (b' body' : List ℕ) (p : Places) {extra : ℕ → ℕ} → HeaderPlaced b withheld body id content date r b' body'
     → GoodWith extra b p → GoodWith extra b' p
-header-placed-keeps b body id content date r b' body' p h g =
+header-placed-keeps b withheld body id content date r b' body' p h g =
     done-keeps r (headerPlaced b id (headerSectors (length content)) date) b b' p (h .books)
-    (λ z. rw (g .places) (header-placed-good b body id content date r (h .number) z (rw (g .places) at g))) g
+    (λ z. rw (g .places) (header-placed-good b withheld body id content date r (h .number) z (rw (g .places) at g))) g
 
-pub header-placed-long : (b body : List ℕ) (id : ℕ) (content date : List ℕ) (r : ℕ) (b' body' : List ℕ) → HeaderPlaced b body id content date r b' body' → length body' ≡ length body
-header-placed-long b body id content date zero b' body' h = ap length (h .body'') ∙ headed-body-long b body id content date 0 (h .number) refl
-header-placed-long b body id content date (suc k) b' body' h = ap length (h .body'')
+pub header-placed-long : (b withheld body : List ℕ) (id : ℕ) (content date : List ℕ) (r : ℕ) (b' body' : List ℕ) → HeaderPlaced b withheld body id content date r b' body' → length body' ≡ length body
+header-placed-long b withheld body id content date zero b' body' h = ap length (h .body'') ∙ headed-body-long b withheld body id content date 0 (h .number) refl
+header-placed-long b withheld body id content date (suc k) b' body' h = ap length (h .body'')

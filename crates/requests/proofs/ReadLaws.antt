@@ -10,10 +10,10 @@ use lib.ListN.{length}
 use borrow.Author.Tests.{le-leb, lt-leb, leb-true, leb-false}
 use Rattle.field.specs.Says.{Says}
 use Rattle.tables.specs.declared.places.Places.{Places}
-use Rattle.tables.specs.Books.{Good}
+use Rattle.tables.specs.Books.{GoodSome}
 use Rattle.tables.specs.Gates.{Test, asks, Gate}
 use Rattle.tables.specs.Places.{placesOf, Layout}
-use Rattle.tables.specs.Lawful.{Lawful}
+use Rattle.tables.specs.Lawful.{LawfulSome}
 use Rattle.tables.specs.Views.{viewOf, Parent}
 use Rattle.tables.proofs.GateLaws.{gate-one, gate-fails, gate-passes, gate-end, gate-stop, gate-skip, gate-rest, gate-head, gate-front}
 use Rattle.files.specs.Moves.{fetched, Movable}
@@ -70,41 +70,41 @@ module _ (b : List ℕ) (id : ℕ) (position : Amount) where
       pub read-fine : x < end → Gate endTests 0
       read-fine l = gate-skip (usableTests 8 b id) _ m 0 h z (gate-passes 14 _ [] 0 (omega arith) gate-end)
 
-module _ (b body : List ℕ) (id : ℕ) (position long : Amount) (room : ℕ) where
-  module _ (a : Bool) (n : ℕ) (s : Says a (MoveAllowed position long room)) (g : Gate (argumentTests b (a ≡ true)) n) where
-    pub read-stops : n ≢ 0 → Gate (readTests b body id position long room) n
+module _ (b withheld body : List ℕ) (id : ℕ) (position long : Amount) (room : ℕ) where
+  module _ (a : Bool) (n : ℕ) (s : Says a (MoveAllowed position long room)) (g : Gate (argumentTests b withheld (a ≡ true)) n) where
+    pub read-stops : n ≢ 0 → Gate (readTests b withheld body id position long room) n
     unfolding readTests
-    read-stops ne = gate-stop (argumentTests b (MoveAllowed position long room)) _ n (argument-says b a _ n s g) ne
+    read-stops ne = gate-stop (argumentTests b withheld (MoveAllowed position long room)) _ n (argument-says b withheld a _ n s g) ne
 
-    pub read-goes : (r : ℕ) → n ≡ 0 → Gate (bodyTest b body ∷ endTests b id position) r → Gate (readTests b body id position long room) r
+    pub read-goes : (r : ℕ) → n ≡ 0 → Gate (bodyTest b body ∷ endTests b id position) r → Gate (readTests b withheld body id position long room) r
     unfolding readTests
-    read-goes r e h = gate-skip (argumentTests b (MoveAllowed position long room)) _ n r (argument-says b a _ n s g) e h
+    read-goes r e h = gate-skip (argumentTests b withheld (MoveAllowed position long room)) _ n r (argument-says b withheld a _ n s g) e h
 
   -- what a number 0 says
-  module _ (n : ℕ) (h : Gate (readTests b body id position long room) n) (e : n ≡ 0) where
-    front : Gate (argumentTests b (MoveAllowed position long room)) 0
+  module _ (n : ℕ) (h : Gate (readTests b withheld body id position long room) n) (e : n ≡ 0) where
+    front : Gate (argumentTests b withheld (MoveAllowed position long room)) 0
     unfolding readTests
-    front = gate-front (argumentTests b (MoveAllowed position long room)) _ (rw e at h)
+    front = gate-front (argumentTests b withheld (MoveAllowed position long room)) _ (rw e at h)
 
     rest : BodySized b body × Gate (endTests b id position) 0
     unfolding readTests
-    rest = gate-head 15 (BodySized b body) _ (gate-rest (argumentTests b (MoveAllowed position long room)) _ (rw e at h))
+    rest = gate-head 15 (BodySized b body) _ (gate-rest (argumentTests b withheld (MoveAllowed position long room)) _ (rw e at h))
 
     pub read-room : 2048 ≤ length b
-    read-room = argument-room b _ 0 front refl
+    read-room = argument-room b withheld _ 0 front refl
 
     module _ (p : Places) (is : p ≡ placesOf b) where
-      pub read-good : Good b p
-      read-good = rw is (argument-good b _ 0 front refl)
+      pub read-good : GoodSome b p
+      read-good = rw is (argument-good b withheld _ 0 front refl)
 
       pub read-parent : Parent (viewOf p b) id
       read-parent = usable-parent 8 b id p 0 read-good (gate-front (usableTests 8 b id) _ (rest .1)) refl
 
       pub read-layout : Layout p (length b)
-      read-layout = read-good .layout
+      read-layout = read-good .1 .layout
 
-      pub read-lawful : Lawful p b
-      read-lawful = read-good .lawful
+      pub read-lawful : LawfulSome p b
+      read-lawful = (_, read-good .1 .lawful)
 
       module _ (at : ℕ) (place : at ≡ amountValue position) where
         pub read-before : at < endOf b id
@@ -113,8 +113,8 @@ module _ (b body : List ℕ) (id : ℕ) (position long : Amount) (room : ℕ) wh
         pub read-moves : (x n : ℕ) → x ≡ amountValue long → n ≡ readAmount b id at x → Movable (viewOf p b) id (at / 1024) (n / 1024) room (length body)
         read-moves x n long' amount =
             let few = amount-most b id at x in
-            let end = end-within b p id read-good read-parent in
-            let a = argument-allowed b _ 0 front refl in
+            let end = end-within b p id (read-good .1) read-parent in
+            let a = argument-allowed b withheld _ 0 front refl in
             let buffer : wholeSectors x ≤ room = rw long' (a .buffer) in
             record {
               parent = read-parent;
@@ -124,13 +124,13 @@ module _ (b body : List ℕ) (id : ℕ) (position long : Amount) (room : ℕ) wh
               body' = rest .0 ∙ ap (λ (q : Places). 1048576 * (q .zones - 2)) (sym is);
             }
 
-module _ (b body : List ℕ) (id : ℕ) (position long : Amount) (x : Bool) (out : List ℕ) where
-  pub read-refused : (n : ℕ) → Gate (readTests b body id position long (length out)) n → n ≢ 0 → ReadOut b body id position long x out (Refused n) out
+module _ (b withheld body : List ℕ) (id : ℕ) (position long : Amount) (x : Bool) (out : List ℕ) where
+  pub read-refused : (n : ℕ) → Gate (readTests b withheld body id position long (length out)) n → n ≢ 0 → ReadOut b withheld body id position long x out (Refused n) out
   read-refused zero g h = absurd (h refl)
   read-refused (suc k) g h = record { number = g; answer = refl; output = refl }
 
-  pub read-done : (n at y amount : ℕ) (p : Places) (out' : List ℕ) → Gate (readTests b body id position long (length out)) n → n ≡ 0 → p ≡ placesOf b → at ≡ amountValue position → y ≡ amountValue long
-      → amount ≡ readAmount b id at y → out' ≡ fetched (viewOf p b) id (at / 1024) x body out (amount / 1024) → ReadOut b body id position long x out (Done amount) out'
+  pub read-done : (n at y amount : ℕ) (p : Places) (out' : List ℕ) → Gate (readTests b withheld body id position long (length out)) n → n ≡ 0 → p ≡ placesOf b → at ≡ amountValue position → y ≡ amountValue long
+      → amount ≡ readAmount b id at y → out' ≡ fetched (viewOf p b) id (at / 1024) x body out (amount / 1024) → ReadOut b withheld body id position long x out (Done amount) out'
   read-done n at y amount p out' g e is place long' am o =
       let am' : amount ≡ readAmount b id (amountValue position) (amountValue long) = rw (← place, ← long') am in
       record {
@@ -141,8 +141,8 @@ module _ (b body : List ℕ) (id : ℕ) (position long : Amount) (x : Bool) (out
 
 -- ---- one result
 
-pub read-one : (b body : List ℕ) (id : ℕ) (position long : Amount) (x : Bool) (out : List ℕ) (r s : Answer) (o u : List ℕ)
-    → ReadOut b body id position long x out r o → ReadOut b body id position long x out s u → (r ≡ s) × (o ≡ u)
-read-one b body id position long x out r s o u h k =
+pub read-one : (b withheld body : List ℕ) (id : ℕ) (position long : Amount) (x : Bool) (out : List ℕ) (r s : Answer) (o u : List ℕ)
+    → ReadOut b withheld body id position long x out r o → ReadOut b withheld body id position long x out s u → (r ≡ s) × (o ≡ u)
+read-one b withheld body id position long x out r s o u h k =
     let e = gate-one _ (numberOf r) (numberOf s) (h .number) (k .number) in
     (answers-one r s _ _ (h .answer) (k .answer) e refl, after-one (numberOf r) (numberOf s) o u _ out e (h .output) (k .output))

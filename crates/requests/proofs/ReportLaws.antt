@@ -102,25 +102,26 @@ good-small b p f g e =
 -- ---- the report's two ways out, and one result
 
 -- the books' own numbers
-pub books-few : (b : List ℕ) (n : ℕ) → Gate (bookTests b) n → n ≤ 4
+pub books-few : (b withheld : List ℕ) (n : ℕ) → Gate (bookTests b withheld) n → n ≤ 7
 unfolding Gate
-books-few b n (inr h) = omega (arith, h .1)
-books-few b n (inl (_, inr h)) = omega (arith, h .1)
-books-few b n (inl (_, inl (_, inr h))) = omega (arith, h .1)
-books-few b n (inl (_, inl (_, inl (_, inr h)))) = omega (arith, h .1)
-books-few b n (inl (_, inl (_, inl (_, inl (_, h))))) = omega arith
+books-few b withheld n (inr h) = omega (arith, h .1)
+books-few b withheld n (inl (_, inr h)) = omega (arith, h .1)
+books-few b withheld n (inl (_, inl (_, inr h))) = omega (arith, h .1)
+books-few b withheld n (inl (_, inl (_, inl (_, inr h)))) = omega (arith, h .1)
+books-few b withheld n (inl (_, inl (_, inl (_, inl (_, inr h))))) = omega (arith, h .1)
+books-few b withheld n (inl (_, inl (_, inl (_, inl (_, inl (_, h)))))) = omega arith
 
-pub report-refused : (b : List ℕ) (n : ℕ) (t : Text) → Gate (bookTests b) n × (n ≢ 0) → t ≡ asText (refusedLine n) → Reported b t
-report-refused b zero t h e = absurd (h .1 refl)
-report-refused b (suc k) t h e = record { number = suc k; gate = h .0; text = e; short = omega (arith, refused-short (suc k) (omega (arith, books-few b (suc k) (h .0)))) }
+pub report-refused : (b withheld : List ℕ) (n : ℕ) (t : Text) → Gate (bookTests b withheld) n × (n ≢ 0) → t ≡ asText (refusedLine n) → Reported b withheld t
+report-refused b withheld zero t h e = absurd (h .1 refl)
+report-refused b withheld (suc k) t h e = record { number = suc k; gate = h .0; text = e; short = omega (arith, refused-short (suc k) (omega (arith, books-few b withheld (suc k) (h .0)))) }
 
-pub report-fine : (b : List ℕ) (p : Places) (f : Figures) (t : Text) → Good b p → f ≡ figuresOf p b → t ≡ asText (linesOf f) → Reported b t
-report-fine b p f t g q e =
-    let same : linesOf f ≡ linesOf (figuresOf (placesOf b) b) = ap linesOf (q ∙ ap (λ (x : Places). figuresOf x b) (g .places)) in
-    record { number = 0; gate = good-zero b p g; text = e ∙ ap asText same; short = omega (arith, ap length same, lines-short f (good-small b p f g q)) }
+pub report-fine : (b withheld : List ℕ) (p : Places) (f : Figures) (t : Text) → Good b withheld p → f ≡ figuresOf p b → t ≡ asText (linesOf f) → Reported b withheld t
+report-fine b withheld p f t g q e =
+    let same : linesOf f ≡ linesOf (figuresOf (placesOf b) b) = ap linesOf (q ∙ ap (λ (x : Places). figuresOf x b) (g .books .places)) in
+    record { number = 0; gate = good-zero b withheld p g; text = e ∙ ap asText same; short = omega (arith, ap length same, lines-short f (good-small b p f (g .books) q)) }
 
-pub reported-one : (b : List ℕ) (t u : Text) → Reported b t → Reported b u → t ≡ u
-reported-one b t u h k = h .text ∙ ap (λ (n : ℕ). asText (reportOf n b)) (gate-one (bookTests b) (h .number) (k .number) (h .gate) (k .gate)) ∙ sym (k .text)
+pub reported-one : (b withheld : List ℕ) (t u : Text) → Reported b withheld t → Reported b withheld u → t ≡ u
+reported-one b withheld t u h k = h .text ∙ ap (λ (n : ℕ). asText (reportOf n b)) (gate-one (bookTests b withheld) (h .number) (k .number) (h .gate) (k .gate)) ∙ sym (k .text)
 
 -- ---- what a caller does with the text
 
@@ -142,7 +143,7 @@ module _ (xs : List ℕ) (t : Text) (e : t ≡ asText xs) where
   pub text-count : t .length ≡ length (take (t .length) (t .bytes))
   text-count = text-length xs t e ∙ sym (ap length (text-part xs t e))
 
-module _ (b : List ℕ) (t : Text) (h : Reported b t) where
+module _ (b withheld : List ℕ) (t : Text) (h : Reported b withheld t) where
   pub report-fits : t .length ≤ length (t .bytes)
   report-fits = text-fits (reportOf (h .number) b) t (h .text)
 

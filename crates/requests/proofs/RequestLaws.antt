@@ -41,11 +41,11 @@ pub answers-one : (r s : Answer) (u v : ℕ) → r ≡ answerOf (numberOf r) u �
 answers-one r s u v h k e f = h ∙ ap₂ (λ (n m : ℕ). answerOf n m) e f ∙ sym k
 
 -- what an examination found, arm by arm
-pub found-good : (b : List ℕ) (found : Checked) (p : Places) → Examined b found → found ≡ Fine p → Good b p
-found-good b found p h e = rw e at h
+pub found-good : (b withheld : List ℕ) (found : Checked) (p : Places) → Examined b withheld found → found ≡ Fine p → Good b withheld p
+found-good b withheld found p h e = rw e at h
 
-pub found-bad : (b : List ℕ) (found : Checked) (n : ℕ) → Examined b found → found ≡ Refused n → Gate (bookTests b) n × (n ≢ 0)
-found-bad b found n h e = rw e at h
+pub found-bad : (b withheld : List ℕ) (found : Checked) (n : ℕ) → Examined b withheld found → found ≡ Refused n → Gate (bookTests b withheld) n × (n ≢ 0)
+found-bad b withheld found n h e = rw e at h
 
 -- ---- R9's counts are no more than the tables
 

@@ -186,26 +186,26 @@ passing-up test (suc n) k l lt h = ⊎-elim
 
 -- ---- the request
 
-pub argument-layout : (b : List ℕ) (p : Places) (P : Type 0) (n : ℕ) → Gate (argumentTests b P) n → n ≡ 0 → p ≡ placesOf b → Layout p (length b)
-argument-layout b p P n g e h = argued-good b P n p g e h .layout
+pub argument-layout : (b withheld : List ℕ) (p : Places) (P : Type 0) (n : ℕ) → Gate (argumentTests b withheld P) n → n ≡ 0 → p ≡ placesOf b → Layout p (length b)
+argument-layout b withheld p P n g e h = argued-good b withheld P n p g e h .1 .layout
 
-module _ (b pattern ids : List ℕ) (a : Bool) (s : Says a (PatternAllowed pattern)) where
-  pub search-refused : (n : ℕ) → Gate (argumentTests b (a ≡ true)) n → n ≢ 0 → Searched b pattern ids (Refused n) ids
+module _ (b withheld pattern ids : List ℕ) (a : Bool) (s : Says a (PatternAllowed pattern)) where
+  pub search-refused : (n : ℕ) → Gate (argumentTests b withheld (a ≡ true)) n → n ≢ 0 → Searched b withheld pattern ids (Refused n) ids
   search-refused zero g h = absurd (h refl)
-  search-refused (suc k) g h = record { number = argument-says b a (PatternAllowed pattern) (suc k) s g; answer = refl; list = refl }
+  search-refused (suc k) g h = record { number = argument-says b withheld a (PatternAllowed pattern) (suc k) s g; answer = refl; list = refl }
 
-  pub search-done : (n m : ℕ) (p : Places) (ids' : List ℕ) → Gate (argumentTests b (a ≡ true)) n → n ≡ 0 → p ≡ placesOf b → m ≡ length (passing (isMatch (viewOf p b) pattern) (p .indexes))
-      → ids' ≡ filledWith ids (passing (isMatch (viewOf p b) pattern) (p .indexes)) → Searched b pattern ids (Done m) ids'
+  pub search-done : (n m : ℕ) (p : Places) (ids' : List ℕ) → Gate (argumentTests b withheld (a ≡ true)) n → n ≡ 0 → p ≡ placesOf b → m ≡ length (passing (isMatch (viewOf p b) pattern) (p .indexes))
+      → ids' ≡ filledWith ids (passing (isMatch (viewOf p b) pattern) (p .indexes)) → Searched b withheld pattern ids (Done m) ids'
   unfolding found
   search-done n m p ids' g e h c f = record {
-    number = rw e at (argument-says b a (PatternAllowed pattern) n s g);
+    number = rw e at (argument-says b withheld a (PatternAllowed pattern) n s g);
     answer = ap Done (rw h at c);
     list = rw h at f;
   }
 
 -- ---- one result
 
-pub searched-one : (b pattern ids : List ℕ) (r s : Answer) (x y : List ℕ) → Searched b pattern ids r x → Searched b pattern ids s y → (r ≡ s) × (x ≡ y)
-searched-one b pattern ids r s x y h k =
+pub searched-one : (b withheld pattern ids : List ℕ) (r s : Answer) (x y : List ℕ) → Searched b withheld pattern ids r x → Searched b withheld pattern ids s y → (r ≡ s) × (x ≡ y)
+searched-one b withheld pattern ids r s x y h k =
     let e = gate-one _ (numberOf r) (numberOf s) (h .number) (k .number) in
     (answers-one r s _ _ (h .answer) (k .answer) e refl, after-one (numberOf r) (numberOf s) x y _ ids e (h .list) (k .list))

@@ -14,12 +14,12 @@ use Rattle.requests.specs.declared.space.Space.the-variants.{Is, Refused
 use Rattle.requests.specs.Answers.{useTests}
 use Rattle.requests.specs.Space.{usedSectors, numberOf, spaceOf, Spaced}
 
-module _ (b : List ℕ) where
-  pub space-refused : (n : ℕ) → Gate (useTests b) n × (n ≢ 0) → Spaced b (Refused n)
+module _ (b withheld : List ℕ) where
+  pub space-refused : (n : ℕ) → Gate (useTests b withheld) n × (n ≢ 0) → Spaced b withheld (Refused n)
   space-refused zero h = absurd (h .1 refl)
   space-refused (suc k) h = record { number = h .0; answer = refl }
 
-  pub space-fine : (r : Space) → Gate (useTests b) 0 → r ≡ Is (1024 * zonesOf b) (usedSectors (placesOf b) b) → Spaced b r
+  pub space-fine : (r : Space) → Gate (useTests b withheld) 0 → r ≡ Is (1024 * zonesOf b) (usedSectors (placesOf b) b) → Spaced b withheld r
   space-fine r g e = rw e (record { number = g; answer = refl })
 
   pub measured : (p : Places) (u : ℕ) {extra : ℕ → ℕ} → GoodWith extra b p → u ≡ usedSectors p b → _≡_ {A = Space} (Is (1024 * p .zones) u) (Is (1024 * zonesOf b) (usedSectors (placesOf b) b))
@@ -27,7 +27,7 @@ module _ (b : List ℕ) where
 
 -- ---- one result
 
-pub spaced-one : (b : List ℕ) (r s : Space) → Spaced b r → Spaced b s → r ≡ s
-spaced-one b r s h k =
-    let e = gate-one (useTests b) (numberOf r) (numberOf s) (h .number) (k .number) in
+pub spaced-one : (b withheld : List ℕ) (r s : Space) → Spaced b withheld r → Spaced b withheld s → r ≡ s
+spaced-one b withheld r s h k =
+    let e = gate-one (useTests b withheld) (numberOf r) (numberOf s) (h .number) (k .number) in
     h .answer ∙ ap (λ (n : ℕ). spaceOf n b) e ∙ sym (k .answer)

@@ -13,7 +13,7 @@ use Rattle.field.proofs.Frames.{kept-refl, kept-trans, kept-wider}
 use Rattle.field.proofs.NumberLaws.{u16-kept, u32-kept, kept-putU16, kept-putU32, u16-put-same, u32-put-same}
 use Rattle.field.proofs.PartLaws.{over-part, same-at}
 use Rattle.tables.specs.declared.places.Places.{Places}
-use Rattle.tables.specs.Books.{Good}
+use Rattle.tables.specs.Books.{GoodSome}
 use Rattle.tables.specs.Gates.{Gate}
 use Rattle.tables.specs.Indexes.{tablePlace, tableAt, nameOf, createdOf, lengthOf}
 use Rattle.tables.specs.Places.{placesOf, Layout}
@@ -146,21 +146,21 @@ module _ (b : List ℕ) (active deleted system directory : ℕ) where
 
 -- ---- the three requests, done: there is file f, and it is restated
 
-module _ (b : List ℕ) (g : Good b (placesOf b)) (f : ℕ) (date : List ℕ) (r : ℕ) where
+module _ (b withheld : List ℕ) (g : GoodSome b (placesOf b)) (f : ℕ) (date : List ℕ) (r : ℕ) where
   abbrev Restates : List ℕ → Type 0
   Restates d = Parent (viewOf (placesOf b) b) f × Restated (viewOf (placesOf b) b) (viewOf (placesOf b) d) f
 
   attribute-restates : (c : List ℕ) (a : ℕ) → Recounted b c → Parent (viewOf (placesOf b) b) f → length date ≡ 6 → Restates (putState (placesOf b) c f a date)
-  attribute-restates c a k parent six = (parent, put-restated (placesOf b) b c f a date (g .layout) k (parent .low) (parent .high) six)
+  attribute-restates c a k parent six = (parent, put-restated (placesOf b) b c f a date (g .1 .layout) k (parent .low) (parent .high) six)
 
-  pub removed-restates : (body : List ℕ) → Gate (removeTests b body f date) r → r ≡ 0 → Restates (removed (placesOf b) b f date)
+  pub removed-restates : (body : List ℕ) → Gate (removeTests b withheld body f date) r → r ≡ 0 → Restates (removed (placesOf b) b f date)
   unfolding removed
-  removed-restates body gate e = let h = remove-asks b body f date r gate e (placesOf b) refl .1 in attribute-restates _ _ (counts-recounted b _ _ _ _) (h .0) (h .1 .1)
+  removed-restates body gate e = let h = remove-asks b withheld body f date r gate e (placesOf b) refl .1 in attribute-restates _ _ (counts-recounted b _ _ _ _) (h .0) (h .1 .1)
 
-  pub recovered-restates : (body : List ℕ) → Gate (recoverTests b body f date) r → r ≡ 0 → Restates (recovered (placesOf b) b f date)
+  pub recovered-restates : (body : List ℕ) → Gate (recoverTests b withheld body f date) r → r ≡ 0 → Restates (recovered (placesOf b) b f date)
   unfolding recovered
-  recovered-restates body gate e = let h = recover-asks b body f date r gate e (placesOf b) refl .1 in attribute-restates _ _ (counts-recounted b _ _ _ _) (h .0) (h .1 .1)
+  recovered-restates body gate e = let h = recover-asks b withheld body f date r gate e (placesOf b) refl .1 in attribute-restates _ _ (counts-recounted b _ _ _ _) (h .0) (h .1 .1)
 
-  pub protected-restates : (w : ℕ) → Gate (protectTests b f w date) r → r ≡ 0 → Restates (protected (placesOf b) b f w date)
+  pub protected-restates : (w : ℕ) → Gate (protectTests b withheld f w date) r → r ≡ 0 → Restates (protected (placesOf b) b f w date)
   unfolding protected
-  protected-restates w gate e = let h = protect-asks b f w date r gate e (placesOf b) refl .1 in attribute-restates b _ (same-counted b) (h .0) (h .1 .1)
+  protected-restates w gate e = let h = protect-asks b withheld f w date r gate e (placesOf b) refl .1 in attribute-restates b _ (same-counted b) (h .0) (h .1 .1)

@@ -226,23 +226,23 @@ module _ (p : Places) (b : List ℕ) (f : ℕ) (date : List ℕ) {extra : ℕ �
 -- ---- the promises
 
 -- "the rules still hold" (demand 3): after temporary delete
-pub removed-keeps : (b body : List ℕ) (id : ℕ) (date : List ℕ) (r : ℕ) (b' body' : List ℕ) (p : Places) {extra : ℕ → ℕ} → Removed b body id date r b' body' → GoodWith extra b p → GoodWith extra b' p
-removed-keeps b body id date r b' body' p h g =
+pub removed-keeps : (b withheld body : List ℕ) (id : ℕ) (date : List ℕ) (r : ℕ) (b' body' : List ℕ) (p : Places) {extra : ℕ → ℕ} → Removed b withheld body id date r b' body' → GoodWith extra b p → GoodWith extra b' p
+removed-keeps b withheld body id date r b' body' p h g =
     done-keeps r (removed (placesOf b) b id date) b b' p (h .books) (λ z.
-    (let a = remove-asks b body id date r (h .number) z (placesOf b) refl in
-    rw (g .places) (removed-good (placesOf b) b id date (rw (g .places) at g) (a .1 .0) (remove-valid b body id date r (h .number) z) (a .1 .1 .0)))) g
+    (let a = remove-asks b withheld body id date r (h .number) z (placesOf b) refl in
+    rw (g .places) (removed-good (placesOf b) b id date (rw (g .places) at g) (a .1 .0) (remove-valid b withheld body id date r (h .number) z) (a .1 .1 .0)))) g
 
 -- after recover
-pub recovered-keeps : (b body : List ℕ) (id : ℕ) (date : List ℕ) (r : ℕ) (b' body' : List ℕ) (p : Places) {extra : ℕ → ℕ} → Recovered b body id date r b' body' → GoodWith extra b p → GoodWith extra b' p
-recovered-keeps b body id date r b' body' p h g =
+pub recovered-keeps : (b withheld body : List ℕ) (id : ℕ) (date : List ℕ) (r : ℕ) (b' body' : List ℕ) (p : Places) {extra : ℕ → ℕ} → Recovered b withheld body id date r b' body' → GoodWith extra b p → GoodWith extra b' p
+recovered-keeps b withheld body id date r b' body' p h g =
     done-keeps r (recovered (placesOf b) b id date) b b' p (h .books) (λ z.
-    (let a = recover-asks b body id date r (h .number) z (placesOf b) refl in
-    rw (g .places) (recovered-good (placesOf b) b id date (rw (g .places) at g) (a .1 .0) (recover-valid b body id date r (h .number) z) (a .1 .1 .0)))) g
+    (let a = recover-asks b withheld body id date r (h .number) z (placesOf b) refl in
+    rw (g .places) (recovered-good (placesOf b) b id date (rw (g .places) at g) (a .1 .0) (recover-valid b withheld body id date r (h .number) z) (a .1 .1 .0)))) g
 
 -- after set protection
-pub protected-keeps : (b : List ℕ) (id w : ℕ) (date : List ℕ) (r : ℕ) (b' : List ℕ) (p : Places) {extra : ℕ → ℕ} → Protected b id w date r b' → GoodWith extra b p → GoodWith extra b' p
-protected-keeps b id w date r b' p h g =
+pub protected-keeps : (b withheld : List ℕ) (id w : ℕ) (date : List ℕ) (r : ℕ) (b' : List ℕ) (p : Places) {extra : ℕ → ℕ} → Protected b withheld id w date r b' → GoodWith extra b p → GoodWith extra b' p
+protected-keeps b withheld id w date r b' p h g =
     done-keeps r (protected (placesOf b) b id w date) b b' p (h .books) (λ z.
-    (let a = protect-asks b id w date r (h .number) z (placesOf b) refl in
-    let v = protect-valid b id w date r (h .number) z in
+    (let a = protect-asks b withheld id w date r (h .number) z (placesOf b) refl in
+    let v = protect-valid b withheld id w date r (h .number) z in
     rw (g .places) (protected-good (placesOf b) b id date (rw (g .places) at g) (a .1 .0) (v .date') w (v .fours) (v .most)))) g

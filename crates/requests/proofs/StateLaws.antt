@@ -16,7 +16,7 @@ use Rattle.tables.specs.Indexes.{tableAt, wordOf, attributeOf, directoryBit, sy
 use Rattle.tables.specs.Places.{placesOf, Layout}
 use Rattle.tables.specs.Sector1.{activeOf, deletedOf, systemOf, directoryOf}
 use Rattle.tables.specs.Gates.{Gate}
-use Rattle.tables.specs.Books.{Good, GoodWith}
+use Rattle.tables.specs.Books.{GoodSome, GoodWith}
 use Rattle.tables.specs.Rules.R9.{activeOne, deletedOne, systemOne, directoryOne}
 use Rattle.tables.specs.Views.{View, viewOf, Parent, tally}
 use Rattle.tables.proofs.Sector1CountLaws.{ones-active, ones-deleted}
@@ -116,83 +116,83 @@ module _ (b : List ℕ) (p : Places) (f : ℕ) {extra : ℕ → ℕ} (g : GoodWi
 
 -- ---- temporary delete and recover
 
-module _ (b body : List ℕ) (id : ℕ) (date : List ℕ) where
-  module _ (a : Bool) (n : ℕ) (s : Says a (Date date)) (g : Gate (lentTests b body (a ≡ true)) n) where
-    pub remove-stops : n ≢ 0 → Gate (removeTests b body id date) n
+module _ (b withheld body : List ℕ) (id : ℕ) (date : List ℕ) where
+  module _ (a : Bool) (n : ℕ) (s : Says a (Date date)) (g : Gate (lentTests b withheld body (a ≡ true)) n) where
+    pub remove-stops : n ≢ 0 → Gate (removeTests b withheld body id date) n
     unfolding removeTests
-    remove-stops ne = gate-stop (lentTests b body (Date date)) _ n (lent-says b body a _ n s g) ne
+    remove-stops ne = gate-stop (lentTests b withheld body (Date date)) _ n (lent-says b withheld body a _ n s g) ne
 
-    pub remove-goes : (r : ℕ) → n ≡ 0 → Gate (usableTests 4 b id) r → Gate (removeTests b body id date) r
+    pub remove-goes : (r : ℕ) → n ≡ 0 → Gate (usableTests 4 b id) r → Gate (removeTests b withheld body id date) r
     unfolding removeTests
-    remove-goes r e h = gate-skip (lentTests b body (Date date)) _ n r (lent-says b body a _ n s g) e h
+    remove-goes r e h = gate-skip (lentTests b withheld body (Date date)) _ n r (lent-says b withheld body a _ n s g) e h
 
-    pub recover-stops : n ≢ 0 → Gate (recoverTests b body id date) n
+    pub recover-stops : n ≢ 0 → Gate (recoverTests b withheld body id date) n
     unfolding recoverTests
-    recover-stops ne = gate-stop (lentTests b body (Date date)) _ n (lent-says b body a _ n s g) ne
+    recover-stops ne = gate-stop (lentTests b withheld body (Date date)) _ n (lent-says b withheld body a _ n s g) ne
 
-    pub recover-goes : (r : ℕ) → n ≡ 0 → Gate (stateTests 1 b id) r → Gate (recoverTests b body id date) r
+    pub recover-goes : (r : ℕ) → n ≡ 0 → Gate (stateTests 1 b id) r → Gate (recoverTests b withheld body id date) r
     unfolding recoverTests
-    recover-goes r e h = gate-skip (lentTests b body (Date date)) _ n r (lent-says b body a _ n s g) e h
+    recover-goes r e h = gate-skip (lentTests b withheld body (Date date)) _ n r (lent-says b withheld body a _ n s g) e h
 
-  module _ (n : ℕ) (g : Gate (removeTests b body id date) n) (e : n ≡ 0) where
-    remove-front : Gate (lentTests b body (Date date)) 0
+  module _ (n : ℕ) (g : Gate (removeTests b withheld body id date) n) (e : n ≡ 0) where
+    remove-front : Gate (lentTests b withheld body (Date date)) 0
     unfolding removeTests
-    remove-front = gate-front (lentTests b body (Date date)) _ (rw e at g)
+    remove-front = gate-front (lentTests b withheld body (Date date)) _ (rw e at g)
 
     pub remove-room : 2048 ≤ length b
-    remove-room = lent-room b body (Date date) 0 remove-front refl
+    remove-room = lent-room b withheld body (Date date) 0 remove-front refl
 
     pub remove-valid : Date date
-    remove-valid = lent-allowed b body (Date date) 0 remove-front refl
+    remove-valid = lent-allowed b withheld body (Date date) 0 remove-front refl
 
     pub remove-sized : BodySized b body
-    remove-sized = lent-sized b body (Date date) 0 remove-front refl
+    remove-sized = lent-sized b withheld body (Date date) 0 remove-front refl
 
     -- what the books' change asks
-    pub remove-asks : (p : Places) → p ≡ placesOf b → Good b p × (Parent (viewOf p b) id × ((deletedBit (attributeOf (tableAt p b id)) ≡ 0) × (length date ≡ 6)))
+    pub remove-asks : (p : Places) → p ≡ placesOf b → GoodSome b p × (Parent (viewOf p b) id × ((deletedBit (attributeOf (tableAt p b id)) ≡ 0) × (length date ≡ 6)))
     unfolding removeTests
-    remove-asks p is = let f = usable-active 4 b id (gate-rest (lentTests b body (Date date)) _ (rw e at g)) in rw is (lent-good b body (Date date) 0 remove-front refl, (f .0, (f .1, remove-valid .long)))
+    remove-asks p is = let f = usable-active 4 b id (gate-rest (lentTests b withheld body (Date date)) _ (rw e at g)) in rw is (lent-good b withheld body (Date date) 0 remove-front refl, (f .0, (f .1, remove-valid .long)))
 
     -- what the header's asks, and the id that is written there
     pub remove-marks : (p : Places) → p ≡ placesOf b → Layout p (length b) × (((1 ≤ id) × (id ≤ p .indexes)) × HeaderInBody (tableAt p b id) (length body))
-    remove-marks p is = let a = remove-asks p is in mark-asks b body p id (a .0) (a .1 .0) remove-sized
+    remove-marks p is = let a = remove-asks p is in mark-asks b body p id (a .0 .1) (a .1 .0) remove-sized
 
     pub remove-few : (1 ≤ id) × (id ≤ 4096)
     remove-few = let m = remove-marks (placesOf b) refl in (m .1 .0 .0, omega (arith, m .1 .0 .1, m .0 .few))
 
-  pub remove-refused : (n : ℕ) → Gate (removeTests b body id date) n → n ≢ 0 → Removed b body id date n b body
+  pub remove-refused : (n : ℕ) → Gate (removeTests b withheld body id date) n → n ≢ 0 → Removed b withheld body id date n b body
   remove-refused n g h = record { number = g; books = after-refused n _ b h; body'' = after-refused n _ body h }
 
-  pub remove-done : (n : ℕ) (p : Places) (w : ℕ) (b' body' : List ℕ) → Gate (removeTests b body id date) n → n ≡ 0 → p ≡ placesOf b → w ≡ minus id
-      → body' ≡ headerMarked (viewOf p b) id w body → b' ≡ removed p b id date → Removed b body id date 0 b' body'
+  pub remove-done : (n : ℕ) (p : Places) (w : ℕ) (b' body' : List ℕ) → Gate (removeTests b withheld body id date) n → n ≡ 0 → p ≡ placesOf b → w ≡ minus id
+      → body' ≡ headerMarked (viewOf p b) id w body → b' ≡ removed p b id date → Removed b withheld body id date 0 b' body'
   remove-done n p w b' body' g e is own k h = record { number = rw e at g; books = h ∙ ap (λ (q : Places). removed q b id date) is; body'' = rw (k, is, own) }
 
-  module _ (n : ℕ) (g : Gate (recoverTests b body id date) n) (e : n ≡ 0) where
-    recover-front : Gate (lentTests b body (Date date)) 0
+  module _ (n : ℕ) (g : Gate (recoverTests b withheld body id date) n) (e : n ≡ 0) where
+    recover-front : Gate (lentTests b withheld body (Date date)) 0
     unfolding recoverTests
-    recover-front = gate-front (lentTests b body (Date date)) _ (rw e at g)
+    recover-front = gate-front (lentTests b withheld body (Date date)) _ (rw e at g)
 
     pub recover-room : 2048 ≤ length b
-    recover-room = lent-room b body (Date date) 0 recover-front refl
+    recover-room = lent-room b withheld body (Date date) 0 recover-front refl
 
     pub recover-valid : Date date
-    recover-valid = lent-allowed b body (Date date) 0 recover-front refl
+    recover-valid = lent-allowed b withheld body (Date date) 0 recover-front refl
 
     pub recover-sized : BodySized b body
-    recover-sized = lent-sized b body (Date date) 0 recover-front refl
+    recover-sized = lent-sized b withheld body (Date date) 0 recover-front refl
 
-    pub recover-asks : (p : Places) → p ≡ placesOf b → Good b p × (Parent (viewOf p b) id × ((deletedBit (attributeOf (tableAt p b id)) ≡ 1) × (length date ≡ 6)))
+    pub recover-asks : (p : Places) → p ≡ placesOf b → GoodSome b p × (Parent (viewOf p b) id × ((deletedBit (attributeOf (tableAt p b id)) ≡ 1) × (length date ≡ 6)))
     unfolding recoverTests
-    recover-asks p is = let f = state-file b id 1 (gate-rest (lentTests b body (Date date)) _ (rw e at g)) in rw is (lent-good b body (Date date) 0 recover-front refl, (f .0, (f .1, recover-valid .long)))
+    recover-asks p is = let f = state-file b id 1 (gate-rest (lentTests b withheld body (Date date)) _ (rw e at g)) in rw is (lent-good b withheld body (Date date) 0 recover-front refl, (f .0, (f .1, recover-valid .long)))
 
     pub recover-marks : (p : Places) → p ≡ placesOf b → Layout p (length b) × (((1 ≤ id) × (id ≤ p .indexes)) × HeaderInBody (tableAt p b id) (length body))
-    recover-marks p is = let a = recover-asks p is in mark-asks b body p id (a .0) (a .1 .0) recover-sized
+    recover-marks p is = let a = recover-asks p is in mark-asks b body p id (a .0 .1) (a .1 .0) recover-sized
 
-  pub recover-refused : (n : ℕ) → Gate (recoverTests b body id date) n → n ≢ 0 → Recovered b body id date n b body
+  pub recover-refused : (n : ℕ) → Gate (recoverTests b withheld body id date) n → n ≢ 0 → Recovered b withheld body id date n b body
   recover-refused n g h = record { number = g; books = after-refused n _ b h; body'' = after-refused n _ body h }
 
-  pub recover-done : (n : ℕ) (p : Places) (b' body' : List ℕ) → Gate (recoverTests b body id date) n → n ≡ 0 → p ≡ placesOf b
-      → body' ≡ headerMarked (viewOf p b) id id body → b' ≡ recovered p b id date → Recovered b body id date 0 b' body'
+  pub recover-done : (n : ℕ) (p : Places) (b' body' : List ℕ) → Gate (recoverTests b withheld body id date) n → n ≡ 0 → p ≡ placesOf b
+      → body' ≡ headerMarked (viewOf p b) id id body → b' ≡ recovered p b id date → Recovered b withheld body id date 0 b' body'
   recover-done n p b' body' g e is k h = record { number = rw e at g; books = h ∙ ap (λ (q : Places). recovered q b id date) is; body'' = rw (k, is) }
 
 -- ---- set protection
@@ -207,47 +207,47 @@ module _ (w : ℕ) (date : List ℕ) where
   pub protect-says : (r : Bool) → w % 4 ≡ 0 → w ≤ 12 → Says r (Date date) → Says r (ProtectAllowed w date)
   protect-says r e h s = says-map r (λ d. record { fours = e; most = h; date' = d }) (λ a. a .date') s
 
-module _ (b : List ℕ) (id w : ℕ) (date : List ℕ) where
-  pub protect-asked : (a : Bool) (n : ℕ) → Says a (ProtectAllowed w date) → Gate (askedTests 0 b (a ≡ true) id) n → Gate (protectTests b id w date) n
+module _ (b withheld : List ℕ) (id w : ℕ) (date : List ℕ) where
+  pub protect-asked : (a : Bool) (n : ℕ) → Says a (ProtectAllowed w date) → Gate (askedTests 0 b withheld (a ≡ true) id) n → Gate (protectTests b withheld id w date) n
   unfolding protectTests
-  protect-asked a n s g = asked-says 0 b id a (ProtectAllowed w date) n s g
+  protect-asked a n s g = asked-says 0 b withheld id a (ProtectAllowed w date) n s g
 
-  module _ (n : ℕ) (g : Gate (protectTests b id w date) n) (e : n ≡ 0) where
-    protect-front : Gate (argumentTests b (ProtectAllowed w date)) 0
+  module _ (n : ℕ) (g : Gate (protectTests b withheld id w date) n) (e : n ≡ 0) where
+    protect-front : Gate (argumentTests b withheld (ProtectAllowed w date)) 0
     unfolding protectTests
-    protect-front = gate-front (argumentTests b (ProtectAllowed w date)) _ (rw e at g)
+    protect-front = gate-front (argumentTests b withheld (ProtectAllowed w date)) _ (rw e at g)
 
     pub protect-room : 2048 ≤ length b
-    protect-room = argument-room b (ProtectAllowed w date) 0 protect-front refl
+    protect-room = argument-room b withheld (ProtectAllowed w date) 0 protect-front refl
 
     pub protect-valid : ProtectAllowed w date
-    protect-valid = argument-allowed b (ProtectAllowed w date) 0 protect-front refl
+    protect-valid = argument-allowed b withheld (ProtectAllowed w date) 0 protect-front refl
 
-    pub protect-asks : (p : Places) → p ≡ placesOf b → Good b p × (Parent (viewOf p b) id × ((w ≤ 12) × (length date ≡ 6)))
+    pub protect-asks : (p : Places) → p ≡ placesOf b → GoodSome b p × (Parent (viewOf p b) id × ((w ≤ 12) × (length date ≡ 6)))
     unfolding protectTests
     protect-asks p is =
-        let f = state-file b id 0 (gate-rest (argumentTests b (ProtectAllowed w date)) _ (rw e at g)) in
-        rw is (argument-good b (ProtectAllowed w date) 0 protect-front refl, (f .0, (protect-valid .most, protect-valid .date' .long)))
+        let f = state-file b id 0 (gate-rest (argumentTests b withheld (ProtectAllowed w date)) _ (rw e at g)) in
+        rw is (argument-good b withheld (ProtectAllowed w date) 0 protect-front refl, (f .0, (protect-valid .most, protect-valid .date' .long)))
 
-  pub protect-refused : (n : ℕ) → Gate (protectTests b id w date) n → n ≢ 0 → Protected b id w date n b
+  pub protect-refused : (n : ℕ) → Gate (protectTests b withheld id w date) n → n ≢ 0 → Protected b withheld id w date n b
   protect-refused n g h = record { number = g; books = after-refused n _ b h }
 
-  pub protect-done : (n : ℕ) (p : Places) (b' : List ℕ) → Gate (protectTests b id w date) n → n ≡ 0 → p ≡ placesOf b → b' ≡ protected p b id w date → Protected b id w date 0 b'
+  pub protect-done : (n : ℕ) (p : Places) (b' : List ℕ) → Gate (protectTests b withheld id w date) n → n ≡ 0 → p ≡ placesOf b → b' ≡ protected p b id w date → Protected b withheld id w date 0 b'
   protect-done n p b' g e is h = record { number = rw e at g; books = h ∙ ap (λ (q : Places). protected q b id w date) is }
 
 -- ---- one result
 
-pub removed-one : (b body : List ℕ) (id : ℕ) (date : List ℕ) (r s : ℕ) (x y m n : List ℕ) → Removed b body id date r x m → Removed b body id date s y n → (r ≡ s) × ((x ≡ y) × (m ≡ n))
-removed-one b body id date r s x y m n h k =
-    let e = gate-one (removeTests b body id date) r s (h .number) (k .number) in
+pub removed-one : (b withheld body : List ℕ) (id : ℕ) (date : List ℕ) (r s : ℕ) (x y m n : List ℕ) → Removed b withheld body id date r x m → Removed b withheld body id date s y n → (r ≡ s) × ((x ≡ y) × (m ≡ n))
+removed-one b withheld body id date r s x y m n h k =
+    let e = gate-one (removeTests b withheld body id date) r s (h .number) (k .number) in
     (e, (after-one r s x y _ b e (h .books) (k .books), after-one r s m n _ body e (h .body'') (k .body'')))
 
-pub recovered-one : (b body : List ℕ) (id : ℕ) (date : List ℕ) (r s : ℕ) (x y m n : List ℕ) → Recovered b body id date r x m → Recovered b body id date s y n → (r ≡ s) × ((x ≡ y) × (m ≡ n))
-recovered-one b body id date r s x y m n h k =
-    let e = gate-one (recoverTests b body id date) r s (h .number) (k .number) in
+pub recovered-one : (b withheld body : List ℕ) (id : ℕ) (date : List ℕ) (r s : ℕ) (x y m n : List ℕ) → Recovered b withheld body id date r x m → Recovered b withheld body id date s y n → (r ≡ s) × ((x ≡ y) × (m ≡ n))
+recovered-one b withheld body id date r s x y m n h k =
+    let e = gate-one (recoverTests b withheld body id date) r s (h .number) (k .number) in
     (e, (after-one r s x y _ b e (h .books) (k .books), after-one r s m n _ body e (h .body'') (k .body'')))
 
-pub protected-one : (b : List ℕ) (id w : ℕ) (date : List ℕ) (r s : ℕ) (x y : List ℕ) → Protected b id w date r x → Protected b id w date s y → (r ≡ s) × (x ≡ y)
-protected-one b id w date r s x y h k =
-    let e = gate-one (protectTests b id w date) r s (h .number) (k .number) in
+pub protected-one : (b withheld : List ℕ) (id w : ℕ) (date : List ℕ) (r s : ℕ) (x y : List ℕ) → Protected b withheld id w date r x → Protected b withheld id w date s y → (r ≡ s) × (x ≡ y)
+protected-one b withheld id w date r s x y h k =
+    let e = gate-one (protectTests b withheld id w date) r s (h .number) (k .number) in
     (e, after-one r s x y _ b e (h .books) (k .books))

@@ -10,12 +10,12 @@ use lib.Dec.{eqb}
 use lib.ListN.{length}
 use borrow.Author.Tests.{eq-eqb, ne-eqb, eqb-true}
 use Rattle.tables.specs.declared.places.Places.{Places}
-use Rattle.tables.specs.Books.{Good, GoodWith}
+use Rattle.tables.specs.Books.{GoodSome, GoodWith}
 use Rattle.tables.specs.Dates.{Date}
 use Rattle.tables.specs.Gates.{Gate}
 use Rattle.tables.specs.Indexes.{attributeOf, variableBit}
 use Rattle.tables.specs.Places.{placesOf, Layout}
-use Rattle.tables.specs.Lawful.{Lawful}
+use Rattle.tables.specs.Lawful.{LawfulSome}
 use Rattle.tables.specs.Rules.R8.{fileSectors}
 use Rattle.tables.specs.Sector1.{flagOf}
 use Rattle.tables.specs.Views.{viewOf, Parent}
@@ -97,7 +97,7 @@ module _ (b : List ℕ) (id at n : ℕ) (date : List ℕ) {extra : ℕ → ℕ} 
 
 -- ---- the request
 
-module _ (b body : List ℕ) (id : ℕ) (position long : Amount) (room : ℕ) (date : List ℕ) (m : ℕ) (h : Gate (writeTests b body id position long room date) m) (e : m ≡ 0) where
+module _ (b withheld body : List ℕ) (id : ℕ) (position long : Amount) (room : ℕ) (date : List ℕ) (m : ℕ) (h : Gate (writeTests b withheld body id position long room date) m) (e : m ≡ 0) where
   abbrev at : ℕ
   at = amountValue position
 
@@ -107,30 +107,30 @@ module _ (b body : List ℕ) (id : ℕ) (position long : Amount) (room : ℕ) (d
   abbrev new : List ℕ
   new = writtenBooks b id at n date
 
-  g : Good b (placesOf b)
-  g = write-good b body id position long room date m h e
+  g : GoodSome b (placesOf b)
+  g = write-good b withheld body id position long room date m h e
 
   parent : Parent (viewOf (placesOf b) b) id
-  parent = write-parent b body id position long room date m h e
+  parent = write-parent b withheld body id position long room date m h e
 
   lack : Gate (lackTests b id (askedLength b id at n)) 0
-  lack = write-lack b body id position long room date m h e
+  lack = write-lack b withheld body id position long room date m h e
 
   allowed : WriteAllowed position long room date
-  allowed = write-allows b body id position long room date m h e
+  allowed = write-allows b withheld body id position long room date m h e
 
-  new-good : Good new (placesOf b)
-  new-good = written-good b id at n date g parent lack (allowed .date')
+  new-good : GoodSome new (placesOf b)
+  new-good = (_, written-good b id at n date (g .1) parent lack (allowed .date'))
 
   new-moves : n ≢ 0 → Movable (viewOf (placesOf b) new) id (at / 1024) (n / 1024) room (length body)
   new-moves ne =
-      let within = written-sectors b id at n date g parent lack (allowed .date') ne (write-within b body id position long room date m h e) in
+      let within = written-sectors b id at n date (g .1) parent lack (allowed .date') ne (write-within b withheld body id position long room date m h e) in
       record {
-        parent = written-parent b id at n date g parent lack (allowed .date');
+        parent = written-parent b id at n date (g .1) parent lack (allowed .date');
         some = omega (arith, within);
         within = omega (arith, within);
         buffer = omega (arith, allowed .move .buffer);
-        body' = write-sized b body id position long room date m h e;
+        body' = write-sized b withheld body id position long room date m h e;
       }
 
   -- once the books are written: what moving the sectors asks
@@ -141,22 +141,22 @@ module _ (b body : List ℕ) (id : ℕ) (position long : Amount) (room : ℕ) (d
     now : b' ≡ new
     now = is ∙ ap₂ (λ (i j : ℕ). writtenBooks b id i j date) place amount
 
-    now-good : Good b' (placesOf b)
+    now-good : GoodSome b' (placesOf b)
     now-good = rw now new-good
 
     pub wrote-room : 2048 ≤ length b'
-    wrote-room = good-room b' (placesOf b) now-good
+    wrote-room = good-room b' (placesOf b) (now-good .1)
 
     module _ (p : Places) (q : p ≡ placesOf b') where
       same : p ≡ placesOf b
-      same = q ∙ sym (now-good .places)
+      same = q ∙ sym (now-good .1 .places)
 
-      pub wrote-asks : w ≢ 0 → Layout p (length b') × (Lawful p b' × Movable (viewOf p b') id (x / 1024) (w / 1024) room (length body))
-      wrote-asks ne = (rw same (now-good .layout), (rw same (now-good .lawful), rw (same, now, place, amount) (new-moves (λ z. ne (amount ∙ z)))))
+      pub wrote-asks : w ≢ 0 → Layout p (length b') × (LawfulSome p b' × Movable (viewOf p b') id (x / 1024) (w / 1024) room (length body))
+      wrote-asks ne = (rw same (now-good .1 .layout), ((now-good .0, rw same (now-good .1 .lawful)), rw (same, now, place, amount) (new-moves (λ z. ne (amount ∙ z)))))
 
 -- ---- the promise
 
-module _ (b body : List ℕ) (id : ℕ) (position long : Amount) (x : Bool) (input date : List ℕ) where
+module _ (b withheld body : List ℕ) (id : ℕ) (position long : Amount) (x : Bool) (input date : List ℕ) where
   abbrev at' : ℕ
   at' = amountValue position
 
@@ -167,22 +167,22 @@ module _ (b body : List ℕ) (id : ℕ) (position long : Amount) (x : Bool) (inp
   unfolding writtenBody filled
   none-long z = ap (λ (k : ℕ). length (writtenBody b id at' k x input date body)) z
 
-  some-long : Gate (writeTests b body id position long (length input) date) 0 → n' ≢ 0 → length (writtenBody b id at' n' x input date body) ≡ length body
+  some-long : Gate (writeTests b withheld body id position long (length input) date) 0 → n' ≢ 0 → length (writtenBody b id at' n' x input date body) ≡ length body
   unfolding writtenBody
   some-long h ne =
       let c = writtenBooks b id at' n' date in
-      let asks = wrote-asks b body id position long (length input) date 0 h refl at' (amountValue long) n' refl refl refl c refl (placesOf c) refl ne in
-      length-filled (placesOf c) c (asks .0) (asks .1 .0) id (at' / 1024) (n' / 1024) x input body (asks .1 .1)
+      let asks = wrote-asks b withheld body id position long (length input) date 0 h refl at' (amountValue long) n' refl refl refl c refl (placesOf c) refl ne in
+      length-filled (placesOf c) c (asks .0) (asks .1 .0 .1) id (at' / 1024) (n' / 1024) x input body (asks .1 .1)
 
   -- "the rules still hold" (demand 3): after write; and the body is as long as it was
-  pub wrote-keeps : (r : Answer) (b' body' : List ℕ) (p : Places) {extra : ℕ → ℕ} → GoodWith extra b p → Wrote b body id position long x input date r b' body' → GoodWith extra b' p × (length body' ≡ length body)
+  pub wrote-keeps : (r : Answer) (b' body' : List ℕ) (p : Places) {extra : ℕ → ℕ} → GoodWith extra b p → Wrote b withheld body id position long x input date r b' body' → GoodWith extra b' p × (length body' ≡ length body)
   wrote-keeps r b' body' p {extra = extra} g h = go (numberOf r) (h .number) (h .books) (h .body'')
     where
-      go : (m : ℕ) → Gate (writeTests b body id position long (length input) date) m → b' ≡ after m (writtenBooks b id at' n' date) b
+      go : (m : ℕ) → Gate (writeTests b withheld body id position long (length input) date) m → b' ≡ after m (writtenBooks b id at' n' date) b
           → body' ≡ after m (writtenBody b id at' n' x input date body) body → GoodWith extra b' p × (length body' ≡ length body)
       go zero q eb ed = (
-        rw (eb, g .places) (written-good b id at' n' date (rw (g .places) at g) (write-parent b body id position long (length input) date 0 q refl) (write-lack b body id position long (length input) date 0 q refl)
-            (write-allows b body id position long (length input) date 0 q refl .date')),
+        rw (eb, g .places) (written-good b id at' n' date (rw (g .places) at g) (write-parent b withheld body id position long (length input) date 0 q refl) (write-lack b withheld body id position long (length input) date 0 q refl)
+            (write-allows b withheld body id position long (length input) date 0 q refl .date')),
         ap length ed ∙ elim (ℕ-discrete n' 0) [ yes z ↦ none-long z | no ne ↦ some-long q ne ],
       )
       go (suc k) q eb ed = (rw eb g, ap length ed)

@@ -12,7 +12,7 @@ use borrow.Author.Tests.{eq-eqb, ne-eqb, lt-ltb, le-ltb}
 use Rattle.field.specs.Says.{Says}
 use Rattle.field.proofs.Tests.{passed, refused, says-map}
 use Rattle.tables.specs.declared.places.Places.{Places}
-use Rattle.tables.specs.Books.{Good, GoodWith}
+use Rattle.tables.specs.Books.{GoodSome, GoodWith}
 use Rattle.tables.specs.Dates.{Date}
 use Rattle.tables.specs.Gates.{Gate}
 use Rattle.tables.specs.Indexes.{tableAt, lengthOf, attributeOf, variableBit}
@@ -100,19 +100,19 @@ module _ (b : List ℕ) (id at n m : ℕ) (h : Gate (usableTests 4 b id) m) wher
     unfolding moveTests
     move-lack x k in' is q = gate-skip (usableTests 4 b id) _ m k h e (gate-passes 14 _ _ k (passed r s in') (rw is at q))
 
-module _ (b body : List ℕ) (id : ℕ) (position long : Amount) (room : ℕ) (date : List ℕ) where
-  module _ (a : Bool) (n : ℕ) (s : Says a (WriteAllowed position long room date)) (g : Gate (argumentTests b (a ≡ true)) n) where
-    pub write-stops : n ≢ 0 → Gate (writeTests b body id position long room date) n
+module _ (b withheld body : List ℕ) (id : ℕ) (position long : Amount) (room : ℕ) (date : List ℕ) where
+  module _ (a : Bool) (n : ℕ) (s : Says a (WriteAllowed position long room date)) (g : Gate (argumentTests b withheld (a ≡ true)) n) where
+    pub write-stops : n ≢ 0 → Gate (writeTests b withheld body id position long room date) n
     unfolding writeTests
-    write-stops ne = gate-stop (argumentTests b (WriteAllowed position long room date)) _ n (argument-says b a _ n s g) ne
+    write-stops ne = gate-stop (argumentTests b withheld (WriteAllowed position long room date)) _ n (argument-says b withheld a _ n s g) ne
 
-    pub write-goes : (r : ℕ) → n ≡ 0 → Gate (bodyTest b body ∷ moveTests b id (amountValue position) (wholeSectors (amountValue long))) r → Gate (writeTests b body id position long room date) r
+    pub write-goes : (r : ℕ) → n ≡ 0 → Gate (bodyTest b body ∷ moveTests b id (amountValue position) (wholeSectors (amountValue long))) r → Gate (writeTests b withheld body id position long room date) r
     unfolding writeTests
-    write-goes r e h = gate-skip (argumentTests b (WriteAllowed position long room date)) _ n r (argument-says b a _ n s g) e h
+    write-goes r e h = gate-skip (argumentTests b withheld (WriteAllowed position long room date)) _ n r (argument-says b withheld a _ n s g) e h
 
     module _ (e : n ≡ 0) (x y w : ℕ) (place : x ≡ amountValue position) (wanted : y ≡ amountValue long) (whole : w ≡ wholeSectors y) where
       moves : MoveAllowed position long room
-      moves = argument-allowed b (WriteAllowed position long room date) n (argument-says b a _ n s g) e .move
+      moves = argument-allowed b withheld (WriteAllowed position long room date) n (argument-says b withheld a _ n s g) e .move
 
       pub write-early : x ≤ 2147483647
       write-early = rw place (signed-most position (moves .position'))
@@ -126,24 +126,24 @@ module _ (b body : List ℕ) (id : ℕ) (position long : Amount) (room : ℕ) (d
   write-these x y w r place wanted whole h = rw (whole, wanted, place) at h
 
   -- what a number 0 says
-  module _ (m : ℕ) (h : Gate (writeTests b body id position long room date) m) (e : m ≡ 0) where
-    front : Gate (argumentTests b (WriteAllowed position long room date)) 0
+  module _ (m : ℕ) (h : Gate (writeTests b withheld body id position long room date) m) (e : m ≡ 0) where
+    front : Gate (argumentTests b withheld (WriteAllowed position long room date)) 0
     unfolding writeTests
-    front = gate-front (argumentTests b (WriteAllowed position long room date)) _ (rw e at h)
+    front = gate-front (argumentTests b withheld (WriteAllowed position long room date)) _ (rw e at h)
 
     rest : BodySized b body × Gate (moveTests b id (amountValue position) (wholeSectors (amountValue long))) 0
     unfolding writeTests
-    rest = gate-head 15 (BodySized b body) _ (gate-rest (argumentTests b (WriteAllowed position long room date)) _ (rw e at h))
+    rest = gate-head 15 (BodySized b body) _ (gate-rest (argumentTests b withheld (WriteAllowed position long room date)) _ (rw e at h))
 
     usable : Gate (usableTests 4 b id) 0
     unfolding moveTests
     usable = gate-front (usableTests 4 b id) _ (rest .1)
 
     pub write-allows : WriteAllowed position long room date
-    write-allows = argument-allowed b (WriteAllowed position long room date) 0 front refl
+    write-allows = argument-allowed b withheld (WriteAllowed position long room date) 0 front refl
 
-    pub write-good : Good b (placesOf b)
-    write-good = argument-good b (WriteAllowed position long room date) 0 front refl
+    pub write-good : GoodSome b (placesOf b)
+    write-good = argument-good b withheld (WriteAllowed position long room date) 0 front refl
 
     pub write-parent : Parent (viewOf (placesOf b) b) id
     write-parent = usable-parent 4 b id (placesOf b) 0 write-good usable refl
@@ -248,17 +248,17 @@ module _ (b : List ℕ) (id at n : ℕ) (date : List ℕ) {extra : ℕ → ℕ} 
 
 -- ---- the request
 
-module _ (b body : List ℕ) (id : ℕ) (position long : Amount) (x : Bool) (input date : List ℕ) where
-  pub write-refused : (m : ℕ) → Gate (writeTests b body id position long (length input) date) m → m ≢ 0 → Wrote b body id position long x input date (Refused m) b body
+module _ (b withheld body : List ℕ) (id : ℕ) (position long : Amount) (x : Bool) (input date : List ℕ) where
+  pub write-refused : (m : ℕ) → Gate (writeTests b withheld body id position long (length input) date) m → m ≢ 0 → Wrote b withheld body id position long x input date (Refused m) b body
   write-refused zero g h = absurd (h refl)
   write-refused (suc k) g h = record { number = g; answer = refl; books = refl; body'' = refl }
 
-  module _ (m : ℕ) (g : Gate (writeTests b body id position long (length input) date) m) (e : m ≡ 0) (at y n : ℕ) (place : at ≡ amountValue position) (wanted : y ≡ amountValue long) (whole : n ≡ wholeSectors y) where
+  module _ (m : ℕ) (g : Gate (writeTests b withheld body id position long (length input) date) m) (e : m ≡ 0) (at y n : ℕ) (place : at ≡ amountValue position) (wanted : y ≡ amountValue long) (whole : n ≡ wholeSectors y) where
     amount : n ≡ wholeSectors (amountValue long)
     amount = whole ∙ ap wholeSectors wanted
 
     -- "Zero bytes after rounding changes nothing"
-    pub write-nothing : n ≡ 0 → Wrote b body id position long x input date (Done 0) b body
+    pub write-nothing : n ≡ 0 → Wrote b withheld body id position long x input date (Done 0) b body
     unfolding writtenBooks writtenBody filled
     write-nothing z =
         let none : wholeSectors (amountValue long) ≡ 0 = sym amount ∙ z in
@@ -270,7 +270,7 @@ module _ (b body : List ℕ) (id : ℕ) (position long : Amount) (x : Bool) (inp
         }
 
     pub write-done : (b' body' : List ℕ) (p : Places) → b' ≡ writtenBooks b id at n date → p ≡ placesOf b' → body' ≡ filled (viewOf p b') id (at / 1024) x input body (n / 1024)
-        → Wrote b body id position long x input date (Done n) b' body'
+        → Wrote b withheld body id position long x input date (Done n) b' body'
     unfolding writtenBody
     write-done b' body' p books is filled' = record {
       number = rw e at g;
@@ -281,9 +281,9 @@ module _ (b body : List ℕ) (id : ℕ) (position long : Amount) (x : Bool) (inp
 
 -- ---- one result
 
-pub wrote-one : (b body : List ℕ) (id : ℕ) (position long : Amount) (x : Bool) (input date : List ℕ) (r s : Answer) (c d u w : List ℕ)
-    → Wrote b body id position long x input date r c u → Wrote b body id position long x input date s d w → (r ≡ s) × (c ≡ d) × (u ≡ w)
-wrote-one b body id position long x input date r s c d u w h k =
+pub wrote-one : (b withheld body : List ℕ) (id : ℕ) (position long : Amount) (x : Bool) (input date : List ℕ) (r s : Answer) (c d u w : List ℕ)
+    → Wrote b withheld body id position long x input date r c u → Wrote b withheld body id position long x input date s d w → (r ≡ s) × (c ≡ d) × (u ≡ w)
+wrote-one b withheld body id position long x input date r s c d u w h k =
     let e = gate-one _ (numberOf r) (numberOf s) (h .number) (k .number) in (
       answers-one r s _ _ (h .answer) (k .answer) e refl,
       after-one (numberOf r) (numberOf s) c d _ b e (h .books) (k .books),

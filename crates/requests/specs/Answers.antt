@@ -15,17 +15,17 @@ after (suc k) new old = old
 
 -- ---- the numbers that begin a request
 
--- 1 to 4, then n where the flag is f
-abbrev pub flagTests : ℕ → ℕ → List ℕ → List Test
-flagTests f n b = bookTests b ++ (asks n (flagOf b ≢ f) ∷ [])
+-- 1 to 4, and 7 for the withheld list between 3 and 4, then n where the flag is f
+abbrev pub flagTests : ℕ → ℕ → List ℕ → List ℕ → List Test
+flagTests f n b withheld = bookTests b withheld ++ (asks n (flagOf b ≢ f) ∷ [])
 
--- 1 to 5, which begin all requests but format, mount and report: 5 "flag 0"
-unfoldable pub useTests : List ℕ → List Test
-useTests b = flagTests 0 5 b
+-- these with 5 "flag 0", called 1 to 5 from here on: they begin all requests but format, mount and report
+unfoldable pub useTests : List ℕ → List ℕ → List Test
+useTests b withheld = flagTests 0 5 b withheld
 
 -- 1 to 5, then 7 "an argument not allowed here"
-unfoldable pub argumentTests : List ℕ → Type 0 → List Test
-argumentTests b allowed = useTests b ++ (asks 7 allowed ∷ [])
+unfoldable pub argumentTests : List ℕ → List ℕ → Type 0 → List Test
+argumentTests b withheld allowed = useTests b withheld ++ (asks 7 allowed ∷ [])
 
 -- ---- an answer with one value
 

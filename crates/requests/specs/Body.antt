@@ -17,5 +17,5 @@ abbrev pub bodyTest : List ℕ → List ℕ → Test
 bodyTest b body = asks 15 (BodySized b body)
 
 -- 1 to 5, 7, then 15
-unfoldable pub lentTests : List ℕ → List ℕ → Type 0 → List Test
-lentTests b body allowed = argumentTests b allowed ++ (bodyTest b body ∷ [])
+unfoldable pub lentTests : List ℕ → List ℕ → List ℕ → Type 0 → List Test
+lentTests b withheld body allowed = argumentTests b withheld allowed ++ (bodyTest b body ∷ [])

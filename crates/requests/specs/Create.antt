@@ -82,9 +82,9 @@ countsFor (Types w) (Is n) = countsOf w n
 countsFor (Types w) Below = replicate 6 0
 countsFor Bad size = replicate 6 0
 
-abbrev pub CreatedFixed : List ℕ → List ℕ → Amount → Chosen → ℕ → List ℕ → Created → List ℕ → Type 0
-CreatedFixed b name size types kind date r b' =
-    Creates (argumentTests b (FixedAllowed name size types kind date)) b (countsFor types size) (record { name = name; date = date; length = amountValue size; attribute = attributeFor 0 kind }) r b'
+abbrev pub CreatedFixed : List ℕ → List ℕ → List ℕ → Amount → Chosen → ℕ → List ℕ → Created → List ℕ → Type 0
+CreatedFixed b withheld name size types kind date r b' =
+    Creates (argumentTests b withheld (FixedAllowed name size types kind date)) b (countsFor types size) (record { name = name; date = date; length = amountValue size; attribute = attributeFor 0 kind }) r b'
 
 -- ---- create variable: "the cell is a block's bytes, else 7; one block, length 0"
 
@@ -98,6 +98,6 @@ pub record VariableAllowed (name : List ℕ) (cell : Amount) (kind : ℕ) (date 
   pub file : NewFile name kind date
   pub cell' : DataType (cellType cell)
 
-abbrev pub CreatedVariable : List ℕ → List ℕ → Amount → ℕ → List ℕ → Created → List ℕ → Type 0
-CreatedVariable b name cell kind date r b' =
-    Creates (argumentTests b (VariableAllowed name cell kind date)) b (onlyCounts (cellType cell) 1) (record { name = name; date = date; length = 0; attribute = attributeFor 1 kind }) r b'
+abbrev pub CreatedVariable : List ℕ → List ℕ → List ℕ → Amount → ℕ → List ℕ → Created → List ℕ → Type 0
+CreatedVariable b withheld name cell kind date r b' =
+    Creates (argumentTests b withheld (VariableAllowed name cell kind date)) b (onlyCounts (cellType cell) 1) (record { name = name; date = date; length = 0; attribute = attributeFor 1 kind }) r b'

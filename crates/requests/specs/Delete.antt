@@ -10,7 +10,7 @@ use Rattle.requests.specs.Answers.{after}
 use Rattle.requests.specs.State.{recoverTests, markedBody}
 
 -- its promise; the numbers are recover's: "Recover and actual delete need a deleted file"
-pub record Deleted (b body : List ℕ) (id : ℕ) (date : List ℕ) (r : ℕ) (b' body' : List ℕ) : Type 0 where
-  pub number : Gate (recoverTests b body id date) r
+pub record Deleted (b withheld body : List ℕ) (id : ℕ) (date : List ℕ) (r : ℕ) (b' body' : List ℕ) : Type 0 where
+  pub number : Gate (recoverTests b withheld body id date) r
   pub books : b' ≡ after r (released (placesOf b) b id date) b
   pub body'' : body' ≡ after r (markedBody b id 0 body) body

@@ -1,11 +1,12 @@
--- "Say which rule the card breaks": the broken rule and its place. "Answers 1 to 3 are reported as `refused=`"; the volume need not be mounted.
+-- "Say which rule the card breaks": the broken rule and its place. "Answers 1 to 3 are reported as `refused=`"; so
+-- is 7 for the withheld list (W7); the volume need not be mounted.
 use mathlib.Core.Path.{_≡_}
 use Prim.Native.Nat.{ℕ, zero, suc, _≤_}
 use mathlib.Core.List.{List, [], _∷_, _++_}
 use lib.ListN.{length}
 use Rattle.tables.specs.Places.{placesOf}
 use Rattle.tables.specs.Gates.{Gate}
-use Rattle.tables.specs.Books.{placeTests}
+use Rattle.tables.specs.Books.{withheldTests}
 use Rattle.examination.specs.declared.fault.Fault.{Fault}
 use Rattle.examination.specs.declared.fault.Fault.the-variants.{Nothing, AtZone, AtSector, AtIndex, AtCount}
 use Rattle.examination.specs.Rulings.{rulings}
@@ -38,12 +39,12 @@ abbrev pub diagnosisOf : ℕ → Fault → Diagnosis
 diagnosisOf zero f = Found f
 diagnosisOf (suc k) f = Refused (suc k)
 
--- broken_rule's promise: one of the numbers 1 to 3, or the lowest rule broken and in it the lowest place
-pub record Diagnosed (b : List ℕ) (r : Diagnosis) : Type 0 where
+-- broken_rule's promise: one of the numbers 1 to 3, 7 for the withheld list, or the lowest rule broken and in it the lowest place
+pub record Diagnosed (b withheld : List ℕ) (r : Diagnosis) : Type 0 where
   pub fault : Fault
-  pub number : Gate (placeTests b) (numberOf r)
+  pub number : Gate (withheldTests b withheld) (numberOf r)
   pub answer : r ≡ diagnosisOf (numberOf r) fault
-  pub names : numberOf r ≡ 0 → NamesFault (rulings (placesOf b) b) fault
+  pub names : numberOf r ≡ 0 → NamesFault (rulings (placesOf b) b withheld) fault
 
 -- ---- "Output: `rule=`, `kind=`, `place=`, one a line; `rule=none` alone if nothing fails."
 
@@ -93,7 +94,7 @@ pub record ShortText (xs : List ℕ) (t : Text) : Type 0 where
   pub short : length xs ≤ 64
 
 -- broken_text's promise: every byte of its text, of at most 64
-pub record DiagnosisText (b : List ℕ) (t : Text) : Type 0 where
+pub record DiagnosisText (b withheld : List ℕ) (t : Text) : Type 0 where
   pub diagnosis : Diagnosis
-  pub diagnosed : Diagnosed b diagnosis
+  pub diagnosed : Diagnosed b withheld diagnosis
   pub lines : ShortText (diagnosisLines diagnosis) t

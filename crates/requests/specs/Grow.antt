@@ -44,15 +44,15 @@ unfolding stateTests kindTests lackTests
 fileTests b id long = namedTests b id ++ (kindTests b id ++ lackTests b id long)
 
 -- 1 to 5, 7, then these
-unfoldable pub growTests : List ℕ → ℕ → Amount → List ℕ → List Test
+unfoldable pub growTests : List ℕ → List ℕ → ℕ → Amount → List ℕ → List Test
 unfolding fileTests
-growTests b id long date = argumentTests b (GrowAllowed long date) ++ fileTests b id (amountValue long)
+growTests b withheld id long date = argumentTests b withheld (GrowAllowed long date) ++ fileTests b id (amountValue long)
 
 -- "if not longer, no byte changes"
 unfoldable pub grownTo : List ℕ → ℕ → ℕ → List ℕ → List ℕ
 grownTo b id long date = cond (ltb (lengthOf (fileBytes b id)) long) (grown (placesOf b) b id (growCounts b id long) long date) b
 
 -- grow's promise
-pub record Grew (b : List ℕ) (id : ℕ) (long : Amount) (date : List ℕ) (r : ℕ) (b' : List ℕ) : Type 0 where
-  pub number : Gate (growTests b id long date) r
+pub record Grew (b withheld : List ℕ) (id : ℕ) (long : Amount) (date : List ℕ) (r : ℕ) (b' : List ℕ) : Type 0 where
+  pub number : Gate (growTests b withheld id long date) r
   pub books : b' ≡ after r (grownTo b id (amountValue long) date) b

@@ -28,34 +28,34 @@ pub record HeaderAllowed (long : ℕ) (date : List ℕ) : Type 0 where
   pub date' : Date date
 
 -- 1 to 5, 7, 15, 8, 9, 10, then 12
-unfoldable pub placeHeaderTests : List ℕ → List ℕ → ℕ → ℕ → List ℕ → List Test
-placeHeaderTests b body id long date =
-    lentTests b body (HeaderAllowed long date) ++ (usableTests 4 b id ++ (asks 12 (HeaderRoom (viewOf (placesOf b) b) (headerSectors long)) ∷ []))
+unfoldable pub placeHeaderTests : List ℕ → List ℕ → List ℕ → ℕ → ℕ → List ℕ → List Test
+placeHeaderTests b withheld body id long date =
+    lentTests b withheld body (HeaderAllowed long date) ++ (usableTests 4 b id ++ (asks 12 (HeaderRoom (viewOf (placesOf b) b) (headerSectors long)) ∷ []))
 
 -- the books with a header of n sectors for the file, and the date stored; the attribute stays
 unfoldable pub headerPlaced : List ℕ → ℕ → ℕ → List ℕ → List ℕ
 headerPlaced b id n date = putState (placesOf b) (headed (placesOf b) b id n) id (attributeOf (fileBytes b id)) date
 
 -- its promise
-pub record HeaderPlaced (b body : List ℕ) (id : ℕ) (content date : List ℕ) (r : ℕ) (b' body' : List ℕ) : Type 0 where
-  pub number : Gate (placeHeaderTests b body id (length content) date) r
+pub record HeaderPlaced (b withheld body : List ℕ) (id : ℕ) (content date : List ℕ) (r : ℕ) (b' body' : List ℕ) : Type 0 where
+  pub number : Gate (placeHeaderTests b withheld body id (length content) date) r
   pub books : b' ≡ after r (headerPlaced b id (headerSectors (length content)) date) b
   pub body'' : body' ≡ after r (headedBody (viewOf (placesOf b) b) id content body) body
 
 -- ---- shown: the whole run as it lies in the body
 
 -- 1 to 5, 15, 8, 9, 10, then 14 where the file has no header
-unfoldable pub showHeaderTests : List ℕ → List ℕ → ℕ → List Test
-showHeaderTests b body id = useTests b ++ (bodyTest b body ∷ (usableTests 8 b id ++ (asks 14 (1 ≤ headerCount (fileBytes b id)) ∷ [])))
+unfoldable pub showHeaderTests : List ℕ → List ℕ → List ℕ → ℕ → List Test
+showHeaderTests b withheld body id = useTests b withheld ++ (bodyTest b body ∷ (usableTests 8 b id ++ (asks 14 (1 ≤ headerCount (fileBytes b id)) ∷ [])))
 
 -- the promise of the place
-pub record HeaderShownAt (b body : List ℕ) (id : ℕ) (r : Part) : Type 0 where
+pub record HeaderShownAt (b withheld body : List ℕ) (id : ℕ) (r : Part) : Type 0 where
   pub number : ℕ
-  pub gate : Gate (showHeaderTests b body id) number
+  pub gate : Gate (showHeaderTests b withheld body id) number
   pub part : r ≡ partOf number (headerStart (fileBytes b id)) (headerCount (fileBytes b id))
 
 -- and of the part itself
-pub record HeaderShown (b body : List ℕ) (id : ℕ) (part : List ℕ) : Type 0 where
+pub record HeaderShown (b withheld body : List ℕ) (id : ℕ) (part : List ℕ) : Type 0 where
   pub number : ℕ
-  pub gate : Gate (showHeaderTests b body id) number
+  pub gate : Gate (showHeaderTests b withheld body id) number
   pub bytes : part ≡ bytesOf number body (headerStart (fileBytes b id)) (headerCount (fileBytes b id))

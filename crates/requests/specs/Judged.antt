@@ -3,11 +3,11 @@ use mathlib.Core.Logic.{_≢_}
 use Prim.Native.Nat.{ℕ}
 use mathlib.Core.List.{List}
 use Rattle.tables.specs.Gates.{Test, Gate}
-use Rattle.tables.specs.Books.{Good}
+use Rattle.tables.specs.Books.{GoodSome}
 use Rattle.examination.specs.declared.check.Checked.{Checked}
 use Rattle.examination.specs.declared.check.Checked.the-variants.{Fine, Refused}
 
 -- by these tests
 abbrev pub Judged : List Test → List ℕ → Checked → Type 0
-Judged tests b (Fine p) = Good b p × Gate tests 0
+Judged tests b (Fine p) = GoodSome b p × Gate tests 0
 Judged tests b (Refused n) = Gate tests n × (n ≢ 0)

@@ -30,11 +30,11 @@ fronts v [] = []
 fronts v (i ∷ ids) = take 64 (v .table i) ++ fronts v ids
 
 -- 1 to 5, then 7
-abbrev pub listTests : List ℕ → ℕ → List Test
-listTests b from = argumentTests b (1 ≤ from)
+abbrev pub listTests : List ℕ → List ℕ → ℕ → List Test
+listTests b withheld from = argumentTests b withheld (1 ≤ from)
 
 -- list's promise
-pub record Listed (b : List ℕ) (from : ℕ) (entries : List ℕ) (r : Answer) (entries' : List ℕ) : Type 0 where
-  pub number : Gate (listTests b from) (numberOf r)
+pub record Listed (b withheld : List ℕ) (from : ℕ) (entries : List ℕ) (r : Answer) (entries' : List ℕ) : Type 0 where
+  pub number : Gate (listTests b withheld from) (numberOf r)
   pub answer : r ≡ answerOf (numberOf r) (length (listed b from (length entries)))
   pub bytes : entries' ≡ after (numberOf r) (over entries 0 (fronts (viewOf (placesOf b) b) (listed b from (length entries)))) entries

@@ -20,8 +20,8 @@ abbrev pub kthOf : List ℕ → ℕ → ℕ → ℕ
 kthOf b id k = kthSector (viewOf (placesOf b) b) id k
 
 -- 1 to 5, 8, 9, then 14
-unfoldable pub locateTests : List ℕ → ℕ → ℕ → List Test
-locateTests b id k = useTests b ++ (namedTests b id ++ (asks 14 (HasSector b id k) ∷ []))
+unfoldable pub locateTests : List ℕ → List ℕ → ℕ → ℕ → List Test
+locateTests b withheld id k = useTests b withheld ++ (namedTests b id ++ (asks 14 (HasSector b id k) ∷ []))
 
 -- this paper's number and value of an answer
 abbrev pub numberOf : Located → ℕ
@@ -38,6 +38,6 @@ locatedAs zero s = At (record { 0 = s })
 locatedAs (suc k) s = Refused (suc k)
 
 -- locate's promise
-pub record Locates (b : List ℕ) (id k : ℕ) (r : Located) : Type 0 where
-  pub number : Gate (locateTests b id k) (numberOf r)
+pub record Locates (b withheld : List ℕ) (id k : ℕ) (r : Located) : Type 0 where
+  pub number : Gate (locateTests b withheld id k) (numberOf r)
   pub answer : r ≡ locatedAs (numberOf r) (kthOf b id k)

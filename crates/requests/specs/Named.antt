@@ -29,8 +29,8 @@ abbrev pub VariableSize : List ℕ → ℕ → Type 0
 VariableSize b id = variableBit (attributeOf (fileBytes b id)) ≡ 1
 
 -- 1 to 5, 7, then 8 and 9
-abbrev pub askedTests : ℕ → List ℕ → Type 0 → ℕ → List Test
-askedTests d b allowed id = argumentTests b allowed ++ stateTests d b id
+abbrev pub askedTests : ℕ → List ℕ → List ℕ → Type 0 → ℕ → List Test
+askedTests d b withheld allowed id = argumentTests b withheld allowed ++ stateTests d b id
 
 -- 8, 9, then 10 where the file is protected by weight w
 unfoldable pub usableTests : ℕ → List ℕ → ℕ → List Test

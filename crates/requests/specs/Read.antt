@@ -20,9 +20,9 @@ use Rattle.requests.specs.Moving.{wholeSectors, endOf, MoveAllowed}
 use Rattle.requests.specs.Named.{usableTests}
 
 -- 1 to 5, 7, 15, 8, 9, 10, then 14
-unfoldable pub readTests : List ℕ → List ℕ → ℕ → Amount → Amount → ℕ → List Test
-readTests b body id position long room =
-    argumentTests b (MoveAllowed position long room) ++ (bodyTest b body ∷ (usableTests 8 b id ++ (asks 14 (amountValue position < endOf b id) ∷ [])))
+unfoldable pub readTests : List ℕ → List ℕ → List ℕ → ℕ → Amount → Amount → ℕ → List Test
+readTests b withheld body id position long room =
+    argumentTests b withheld (MoveAllowed position long room) ++ (bodyTest b body ∷ (usableTests 8 b id ++ (asks 14 (amountValue position < endOf b id) ∷ [])))
 
 -- "the smaller of it and what remains"
 unfoldable pub readAmount : List ℕ → ℕ → ℕ → ℕ → ℕ
@@ -33,7 +33,7 @@ abbrev pub readOut : List ℕ → List ℕ → ℕ → ℕ → ℕ → Bool → 
 readOut b body id at n exchange out = fetched (viewOf (placesOf b) b) id (at / 1024) exchange body out (n / 1024)
 
 -- read's promise
-pub record ReadOut (b body : List ℕ) (id : ℕ) (position long : Amount) (exchange : Bool) (out : List ℕ) (r : Answer) (out' : List ℕ) : Type 0 where
-  pub number : Gate (readTests b body id position long (length out)) (numberOf r)
+pub record ReadOut (b withheld body : List ℕ) (id : ℕ) (position long : Amount) (exchange : Bool) (out : List ℕ) (r : Answer) (out' : List ℕ) : Type 0 where
+  pub number : Gate (readTests b withheld body id position long (length out)) (numberOf r)
   pub answer : r ≡ answerOf (numberOf r) (readAmount b id (amountValue position) (amountValue long))
   pub output : out' ≡ after (numberOf r) (readOut b body id (amountValue position) (readAmount b id (amountValue position) (amountValue long)) exchange out) out

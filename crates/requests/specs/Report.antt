@@ -118,8 +118,8 @@ reportOf zero b = linesOf (figuresOf (placesOf b) b)
 reportOf (suc k) b = refusedLine (suc k)
 
 -- report's promise: every byte of its text, which has room
-pub record Reported (b : List ℕ) (t : Text) : Type 0 where
+pub record Reported (b withheld : List ℕ) (t : Text) : Type 0 where
   pub number : ℕ
-  pub gate : Gate (bookTests b) number
+  pub gate : Gate (bookTests b withheld) number
   pub text : t ≡ asText (reportOf number b)
   pub short : length (reportOf number b) ≤ 192

@@ -43,15 +43,15 @@ pub record PatternAllowed (pattern : List ℕ) : Type 0 where
   pub text : (k : ℕ) → k < length pattern → getD pattern k 0 ≢ 0
 
 -- 1 to 5, then 7
-abbrev pub searchTests : List ℕ → List ℕ → List Test
-searchTests b pattern = argumentTests b (PatternAllowed pattern)
+abbrev pub searchTests : List ℕ → List ℕ → List ℕ → List Test
+searchTests b withheld pattern = argumentTests b withheld (PatternAllowed pattern)
 
 -- the lent list with as many of these as it holds
 abbrev pub filledWith : List ℕ → List ℕ → List ℕ
 filledWith lent ids = over lent 0 (take (length lent) ids)
 
 -- search's promise
-pub record Searched (b pattern ids : List ℕ) (r : Answer) (ids' : List ℕ) : Type 0 where
-  pub number : Gate (searchTests b pattern) (numberOf r)
+pub record Searched (b withheld pattern ids : List ℕ) (r : Answer) (ids' : List ℕ) : Type 0 where
+  pub number : Gate (searchTests b withheld pattern) (numberOf r)
   pub answer : r ≡ answerOf (numberOf r) (length (found b pattern))
   pub list : ids' ≡ after (numberOf r) (filledWith ids (found b pattern)) ids

@@ -12,8 +12,8 @@ use Rattle.requests.specs.Locate.{HasSector, kthOf}
 use Rattle.requests.specs.Named.{usableTests}
 
 -- 1 to 5, 15, 8, 9, 10, then 14
-unfoldable pub showTests : List ℕ → List ℕ → ℕ → ℕ → List Test
-showTests b body id k = useTests b ++ (bodyTest b body ∷ (usableTests 8 b id ++ (asks 14 (HasSector b id k) ∷ [])))
+unfoldable pub showTests : List ℕ → List ℕ → List ℕ → ℕ → ℕ → List Test
+showTests b withheld body id k = useTests b withheld ++ (bodyTest b body ∷ (usableTests 8 b id ++ (asks 14 (HasSector b id k) ∷ [])))
 
 -- where the part lies in the body: n sectors from s on where the number is 0, else none, at 0
 abbrev pub partOf : ℕ → ℕ → ℕ → Part
@@ -21,9 +21,9 @@ partOf zero s n = record { at = bodyPlace s; len = 1024 * n }
 partOf (suc k) s n = record { at = 0; len = 0 }
 
 -- the promise of the place
-pub record ShownAt (b body : List ℕ) (id k : ℕ) (r : Part) : Type 0 where
+pub record ShownAt (b withheld body : List ℕ) (id k : ℕ) (r : Part) : Type 0 where
   pub number : ℕ
-  pub gate : Gate (showTests b body id k) number
+  pub gate : Gate (showTests b withheld body id k) number
   pub part : r ≡ partOf number (kthOf b id k) 1
 
 -- the part itself
@@ -32,7 +32,7 @@ bytesOf zero body s n = sectorsContent body s n
 bytesOf (suc k) body s n = []
 
 -- show's promise
-pub record Shown (b body : List ℕ) (id k : ℕ) (part : List ℕ) : Type 0 where
+pub record Shown (b withheld body : List ℕ) (id k : ℕ) (part : List ℕ) : Type 0 where
   pub number : ℕ
-  pub gate : Gate (showTests b body id k) number
+  pub gate : Gate (showTests b withheld body id k) number
   pub bytes : part ≡ bytesOf number body (kthOf b id k) 1

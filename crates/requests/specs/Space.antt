@@ -34,6 +34,6 @@ spaceOf zero b = Is (1024 * zonesOf b) (usedSectors (placesOf b) b)
 spaceOf (suc k) b = Refused (suc k)
 
 -- space's promise
-pub record Spaced (b : List ℕ) (r : Space) : Type 0 where
-  pub number : Gate (useTests b) (numberOf r)
+pub record Spaced (b withheld : List ℕ) (r : Space) : Type 0 where
+  pub number : Gate (useTests b withheld) (numberOf r)
   pub answer : r ≡ spaceOf (numberOf r) b

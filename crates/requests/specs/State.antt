@@ -55,22 +55,22 @@ abbrev pub markedBody : List ℕ → ℕ → ℕ → List ℕ → List ℕ
 markedBody b id w body = headerMarked (viewOf (placesOf b) b) id w body
 
 -- 1 to 5, 7, 15, 8, 9, then 10 "if write-protected"
-unfoldable pub removeTests : List ℕ → List ℕ → ℕ → List ℕ → List Test
-removeTests b body id date = lentTests b body (Date date) ++ usableTests 4 b id
+unfoldable pub removeTests : List ℕ → List ℕ → List ℕ → ℕ → List ℕ → List Test
+removeTests b withheld body id date = lentTests b withheld body (Date date) ++ usableTests 4 b id
 
 -- temporary delete's promise
-pub record Removed (b body : List ℕ) (id : ℕ) (date : List ℕ) (r : ℕ) (b' body' : List ℕ) : Type 0 where
-  pub number : Gate (removeTests b body id date) r
+pub record Removed (b withheld body : List ℕ) (id : ℕ) (date : List ℕ) (r : ℕ) (b' body' : List ℕ) : Type 0 where
+  pub number : Gate (removeTests b withheld body id date) r
   pub books : b' ≡ after r (removed (placesOf b) b id date) b
   pub body'' : body' ≡ after r (markedBody b id (minus id) body) body
 
 -- 1 to 5, 7, 15, then 8 and 9: "Recover and actual delete need a deleted file"
-unfoldable pub recoverTests : List ℕ → List ℕ → ℕ → List ℕ → List Test
-recoverTests b body id date = lentTests b body (Date date) ++ stateTests 1 b id
+unfoldable pub recoverTests : List ℕ → List ℕ → List ℕ → ℕ → List ℕ → List Test
+recoverTests b withheld body id date = lentTests b withheld body (Date date) ++ stateTests 1 b id
 
 -- recover's promise
-pub record Recovered (b body : List ℕ) (id : ℕ) (date : List ℕ) (r : ℕ) (b' body' : List ℕ) : Type 0 where
-  pub number : Gate (recoverTests b body id date) r
+pub record Recovered (b withheld body : List ℕ) (id : ℕ) (date : List ℕ) (r : ℕ) (b' body' : List ℕ) : Type 0 where
+  pub number : Gate (recoverTests b withheld body id date) r
   pub books : b' ≡ after r (recovered (placesOf b) b id date) b
   pub body'' : body' ≡ after r (markedBody b id id body) body
 
@@ -81,10 +81,10 @@ pub record ProtectAllowed (w : ℕ) (date : List ℕ) : Type 0 where
   pub date' : Date date
 
 -- 1 to 5, 7, then 8 and 9
-unfoldable pub protectTests : List ℕ → ℕ → ℕ → List ℕ → List Test
-protectTests b id w date = askedTests 0 b (ProtectAllowed w date) id
+unfoldable pub protectTests : List ℕ → List ℕ → ℕ → ℕ → List ℕ → List Test
+protectTests b withheld id w date = askedTests 0 b withheld (ProtectAllowed w date) id
 
 -- set protection's promise
-pub record Protected (b : List ℕ) (id w : ℕ) (date : List ℕ) (r : ℕ) (b' : List ℕ) : Type 0 where
-  pub number : Gate (protectTests b id w date) r
+pub record Protected (b withheld : List ℕ) (id w : ℕ) (date : List ℕ) (r : ℕ) (b' : List ℕ) : Type 0 where
+  pub number : Gate (protectTests b withheld id w date) r
   pub books : b' ≡ after r (protected (placesOf b) b id w date) b

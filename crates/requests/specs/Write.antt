@@ -46,10 +46,10 @@ unfolding askedLength
 moveTests b id at n = usableTests 4 b id ++ (asks 14 (Within b id at n) ∷ lackTests b id (askedLength b id at n))
 
 -- 1 to 5, 7, 15, then these
-unfoldable pub writeTests : List ℕ → List ℕ → ℕ → Amount → Amount → ℕ → List ℕ → List Test
+unfoldable pub writeTests : List ℕ → List ℕ → List ℕ → ℕ → Amount → Amount → ℕ → List ℕ → List Test
 unfolding moveTests
-writeTests b body id position long room date =
-    argumentTests b (WriteAllowed position long room date) ++ (bodyTest b body ∷ moveTests b id (amountValue position) (wholeSectors (amountValue long)))
+writeTests b withheld body id position long room date =
+    argumentTests b withheld (WriteAllowed position long room date) ++ (bodyTest b body ∷ moveTests b id (amountValue position) (wholeSectors (amountValue long)))
 
 -- ---- the books
 
@@ -75,8 +75,8 @@ writtenBody b id at n exchange input date body =
     let b' = writtenBooks b id at n date in filled (viewOf (placesOf b') b') id (at / 1024) exchange input body (n / 1024)
 
 -- write's promise
-pub record Wrote (b body : List ℕ) (id : ℕ) (position long : Amount) (exchange : Bool) (input date : List ℕ) (r : Answer) (b' body' : List ℕ) : Type 0 where
-  pub number : Gate (writeTests b body id position long (length input) date) (numberOf r)
+pub record Wrote (b withheld body : List ℕ) (id : ℕ) (position long : Amount) (exchange : Bool) (input date : List ℕ) (r : Answer) (b' body' : List ℕ) : Type 0 where
+  pub number : Gate (writeTests b withheld body id position long (length input) date) (numberOf r)
   pub answer : r ≡ answerOf (numberOf r) (wholeSectors (amountValue long))
   pub books : b' ≡ after (numberOf r) (writtenBooks b id (amountValue position) (wholeSectors (amountValue long)) date) b
   pub body'' : body' ≡ after (numberOf r) (writtenBody b id (amountValue position) (wholeSectors (amountValue long)) exchange input date body) body

@@ -6,10 +6,10 @@ use tables::kinds::Index;
 use tables::places::read_places;
 ghost use Rattle.requests.specs.Delete.{Deleted};
 
-pub fn actual_delete(b: &mut [u8], body: &mut [u8], id: u32, date: &[u8]) -> u32
-    ensures { λ r. ⌜ Deleted (now (b .entry)) (now (body .entry)) id (now (date .entry)) r (now (b .exit)) (now (body .exit)) ⌝ }
+pub fn actual_delete(b: &mut [u8], withheld: &[u32], body: &mut [u8], id: u32, date: &[u8]) -> u32
+    ensures { λ r. ⌜ Deleted (now (b .entry)) (now (withheld .entry)) (now (body .entry)) id (now (date .entry)) r (now (b .exit)) (now (body .exit)) ⌝ }
 {
-    let n = recover_number(b, body, id, date);
+    let n = recover_number(b, withheld, body, id, date);
     if n != 0 {
         return n;
     }

@@ -6,10 +6,10 @@ ghost use Rattle.tables.specs.Gates.{Gate};
 ghost use Rattle.requests.specs.Answers.{argumentTests};
 
 // Numbers 1 to 5, and 7.
-pub fn argument_number(b: &[u8], allowed: bool) -> u32
-    ensures { λ r. ⌜ Gate (argumentTests (now (b .entry)) (allowed ≡ true)) r ⌝ }
+pub fn argument_number(b: &[u8], withheld: &[u32], allowed: bool) -> u32
+    ensures { λ r. ⌜ Gate (argumentTests (now (b .entry)) (now (withheld .entry)) (allowed ≡ true)) r ⌝ }
 {
-    let n = use_number(b);
+    let n = use_number(b, withheld);
     if n != 0 {
         return n;
     }

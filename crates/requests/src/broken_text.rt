@@ -51,10 +51,10 @@ fn fault_text(f: Fault) -> Text
 }
 
 // The text of the answer.
-pub fn broken_text(b: &[u8]) -> Text
-    ensures { λ r. ⌜ DiagnosisText (now (b .entry)) r ⌝ }
+pub fn broken_text(b: &[u8], withheld: &[u32]) -> Text
+    ensures { λ r. ⌜ DiagnosisText (now (b .entry)) (now (withheld .entry)) r ⌝ }
 {
-    let found = broken_rule(b);
+    let found = broken_rule(b, withheld);
     match found {
         Diagnosis::Refused(n) => refused_text(n),
         Diagnosis::Found(f) => fault_text(f),

@@ -69,15 +69,16 @@ fn counts_for(types: Chosen, size: Amount) -> [u32; 6]
 
 pub fn create_fixed(
     b: &mut [u8],
+    withheld: &[u32],
     name: &[u8],
     size: Amount,
     types: Chosen,
     kind: u32,
     date: &[u8],
 ) -> Created
-    ensures { λ r. ⌜ CreatedFixed (now (b .entry)) (now (name .entry)) size types kind (now (date .entry)) r (now (b .exit)) ⌝ }
+    ensures { λ r. ⌜ CreatedFixed (now (b .entry)) (now (withheld .entry)) (now (name .entry)) size types kind (now (date .entry)) r (now (b .exit)) ⌝ }
 {
-    let n = argument_number(b, fixed_allowed(name, size, types, kind, date));
+    let n = argument_number(b, withheld, fixed_allowed(name, size, types, kind, date));
     if n != 0 {
         return Created::Refused(n);
     }

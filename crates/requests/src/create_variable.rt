@@ -44,10 +44,17 @@ fn variable_allowed(name: &[u8], cell: Amount, kind: u32, date: &[u8]) -> bool
     cell_type(cell) <= 8
 }
 
-pub fn create_variable(b: &mut [u8], name: &[u8], cell: Amount, kind: u32, date: &[u8]) -> Created
-    ensures { λ r. ⌜ CreatedVariable (now (b .entry)) (now (name .entry)) cell kind (now (date .entry)) r (now (b .exit)) ⌝ }
+pub fn create_variable(
+    b: &mut [u8],
+    withheld: &[u32],
+    name: &[u8],
+    cell: Amount,
+    kind: u32,
+    date: &[u8],
+) -> Created
+    ensures { λ r. ⌜ CreatedVariable (now (b .entry)) (now (withheld .entry)) (now (name .entry)) cell kind (now (date .entry)) r (now (b .exit)) ⌝ }
 {
-    let n = argument_number(b, variable_allowed(name, cell, kind, date));
+    let n = argument_number(b, withheld, variable_allowed(name, cell, kind, date));
     if n != 0 {
         return Created::Refused(n);
     }

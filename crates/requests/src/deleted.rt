@@ -7,10 +7,10 @@ ghost use Rattle.tables.specs.Gates.{Gate};
 ghost use Rattle.requests.specs.State.{recoverTests};
 
 // Numbers 1 to 5, 7, 15, then 8 and 9.
-pub fn recover_number(b: &[u8], body: &[u8], id: u32, date: &[u8]) -> u32
-    ensures { λ r. ⌜ Gate (recoverTests (now (b .entry)) (now (body .entry)) id (now (date .entry))) r ⌝ }
+pub fn recover_number(b: &[u8], withheld: &[u32], body: &[u8], id: u32, date: &[u8]) -> u32
+    ensures { λ r. ⌜ Gate (recoverTests (now (b .entry)) (now (withheld .entry)) (now (body .entry)) id (now (date .entry))) r ⌝ }
 {
-    let n = lent_number(b, body, date_valid(date));
+    let n = lent_number(b, withheld, body, date_valid(date));
     if n != 0 {
         return n;
     }

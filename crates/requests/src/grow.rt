@@ -14,7 +14,7 @@ use tables::places::Places;
 use tables::places::read_places;
 ghost use Rattle.field.specs.Says.{Says};
 ghost use Rattle.tables.specs.Gates.{Gate};
-ghost use Rattle.tables.specs.Books.{Good};
+ghost use Rattle.tables.specs.Books.{GoodSome};
 ghost use Rattle.tables.specs.Views.{viewOf, Parent};
 ghost use Rattle.requests.specs.Grow.{GrowAllowed, kindTests, fileTests, growTests, Grew};
 
@@ -34,7 +34,7 @@ fn grow_allowed(long: Amount, date: &[u8]) -> bool
 
 // Numbers 10 and 11.
 fn kind_number(b: &[u8], p: Places, f: Index) -> u32
-    requires { ⌜ Good (now b) p ⌝ }
+    requires { ⌜ GoodSome (now b) p ⌝ }
     requires { ⌜ Parent (viewOf p (now b)) (f .0) ⌝ }
     ensures { λ r. ⌜ Gate (kindTests (now (b .entry)) (f .0)) r ⌝ }
 {
@@ -49,7 +49,7 @@ fn kind_number(b: &[u8], p: Places, f: Index) -> u32
 
 // Numbers 8 to 13.
 fn file_number(b: &[u8], p: Places, id: u32, long: u32) -> u32
-    requires { ⌜ Good (now b) p ⌝ }
+    requires { ⌜ GoodSome (now b) p ⌝ }
     ensures { λ r. ⌜ Gate (fileTests (now (b .entry)) id long) r ⌝ }
 {
     let n = state_number(b, p, id, 0);
@@ -64,20 +64,20 @@ fn file_number(b: &[u8], p: Places, id: u32, long: u32) -> u32
     lack_number(b, p, f, long)
 }
 
-fn grow_number(b: &[u8], id: u32, long: Amount, date: &[u8]) -> u32
-    ensures { λ r. ⌜ Gate (growTests (now (b .entry)) id long (now (date .entry))) r ⌝ }
+fn grow_number(b: &[u8], withheld: &[u32], id: u32, long: Amount, date: &[u8]) -> u32
+    ensures { λ r. ⌜ Gate (growTests (now (b .entry)) (now (withheld .entry)) id long (now (date .entry))) r ⌝ }
 {
-    let n = argument_number(b, grow_allowed(long, date));
+    let n = argument_number(b, withheld, grow_allowed(long, date));
     if n != 0 {
         return n;
     }
     file_number(b, read_places(b), id, number_of(long))
 }
 
-pub fn grow(b: &mut [u8], id: u32, long: Amount, date: &[u8]) -> u32
-    ensures { λ r. ⌜ Grew (now (b .entry)) id long (now (date .entry)) r (now (b .exit)) ⌝ }
+pub fn grow(b: &mut [u8], withheld: &[u32], id: u32, long: Amount, date: &[u8]) -> u32
+    ensures { λ r. ⌜ Grew (now (b .entry)) (now (withheld .entry)) id long (now (date .entry)) r (now (b .exit)) ⌝ }
 {
-    let n = grow_number(b, id, long, date);
+    let n = grow_number(b, withheld, id, long, date);
     if n != 0 {
         return n;
     }

@@ -75,10 +75,10 @@ fn list_files(b: &[u8], p: Places, from: u32, entries: &mut [u8]) -> u32
     n as u32
 }
 
-pub fn list(b: &[u8], from: u32, entries: &mut [u8]) -> Answer
-    ensures { λ r. ⌜ Listed (now (b .entry)) from (now (entries .entry)) r (now (entries .exit)) ⌝ }
+pub fn list(b: &[u8], withheld: &[u32], from: u32, entries: &mut [u8]) -> Answer
+    ensures { λ r. ⌜ Listed (now (b .entry)) (now (withheld .entry)) from (now (entries .entry)) r (now (entries .exit)) ⌝ }
 {
-    let n = argument_number(b, from >= 1);
+    let n = argument_number(b, withheld, from >= 1);
     if n != 0 {
         return Answer::Refused(n);
     }

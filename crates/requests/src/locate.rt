@@ -14,10 +14,10 @@ pub enum Located {
     Refused(u32),
 }
 
-fn locate_number(b: &[u8], id: u32, k: u32) -> u32
-    ensures { λ r. ⌜ Gate (locateTests (now (b .entry)) id k) r ⌝ }
+fn locate_number(b: &[u8], withheld: &[u32], id: u32, k: u32) -> u32
+    ensures { λ r. ⌜ Gate (locateTests (now (b .entry)) (now (withheld .entry)) id k) r ⌝ }
 {
-    let n = use_number(b);
+    let n = use_number(b, withheld);
     if n != 0 {
         return n;
     }
@@ -33,10 +33,10 @@ fn locate_number(b: &[u8], id: u32, k: u32) -> u32
     0
 }
 
-pub fn locate(b: &[u8], id: u32, k: u32) -> Located
-    ensures { λ r. ⌜ Locates (now (b .entry)) id k r ⌝ }
+pub fn locate(b: &[u8], withheld: &[u32], id: u32, k: u32) -> Located
+    ensures { λ r. ⌜ Locates (now (b .entry)) (now (withheld .entry)) id k r ⌝ }
 {
-    let n = locate_number(b, id, k);
+    let n = locate_number(b, withheld, id, k);
     if n != 0 {
         return Located::Refused(n);
     }

@@ -13,14 +13,14 @@ use tables::places::read_places;
 ghost use mathlib.Core.Path.{_≡_};
 ghost use lib.ListN.{length};
 ghost use Rattle.tables.specs.Gates.{Gate};
-ghost use Rattle.tables.specs.Books.{Good};
+ghost use Rattle.tables.specs.Books.{GoodSome};
 ghost use Rattle.tables.specs.Places.{placesOf};
 ghost use Rattle.tables.specs.Views.{viewOf, Parent};
 ghost use Rattle.requests.specs.Grow.{growCounts, lackTests, grownTo};
 
 // The blocks that file f lacks, by type.
 fn grow_counts(b: &[u8], p: Places, f: Index, long: u32) -> [u32; 6]
-    requires { ⌜ Good (now b) p ⌝ }
+    requires { ⌜ GoodSome (now b) p ⌝ }
     requires { ⌜ Parent (viewOf p (now b)) (f .0) ⌝ }
     ensures { λ r. ⌜ r ≡ growCounts (now (b .entry)) (f .0) long ⌝ }
 {
@@ -29,7 +29,7 @@ fn grow_counts(b: &[u8], p: Places, f: Index, long: u32) -> [u32; 6]
 
 // Numbers 12 and 13, where the file becomes longer.
 pub fn lack_number(b: &[u8], p: Places, f: Index, long: u32) -> u32
-    requires { ⌜ Good (now b) p ⌝ }
+    requires { ⌜ GoodSome (now b) p ⌝ }
     requires { ⌜ Parent (viewOf p (now b)) (f .0) ⌝ }
     ensures { λ r. ⌜ Gate (lackTests (now (b .entry)) (f .0) long) r ⌝ }
 {
@@ -42,7 +42,7 @@ pub fn lack_number(b: &[u8], p: Places, f: Index, long: u32) -> u32
 
 // Adds the blocks and sets the length, if the file becomes longer.
 pub fn lengthen(b: &mut [u8], f: Index, long: u32, date: &[u8])
-    requires { ⌜ Good (now b) (placesOf (now b)) ⌝ }
+    requires { ⌜ GoodSome (now b) (placesOf (now b)) ⌝ }
     requires { ⌜ Parent (viewOf (placesOf (now b)) (now b)) (f .0) ⌝ }
     requires { ⌜ Gate (lackTests (now b) (f .0) long) 0 ⌝ }
     requires { ⌜ length (now date) ≡ 6 ⌝ }

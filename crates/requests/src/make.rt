@@ -9,7 +9,7 @@ use tables::places::read_places;
 ghost use mathlib.Core.List.{[]};
 ghost use Prim.Native.Nat.{_≤_};
 ghost use Rattle.field.specs.Says.{Says};
-ghost use Rattle.tables.specs.Books.{Good};
+ghost use Rattle.tables.specs.Books.{GoodSome};
 ghost use Rattle.tables.specs.Places.{placesOf};
 ghost use Rattle.requests.specs.Create.{NewFile, attributeFor, Creates};
 
@@ -36,7 +36,7 @@ pub fn make_file(
     long: u32,
     variable: u32,
 ) -> Created
-    requires { ⌜ Good (now b) (placesOf (now b)) ⌝ }
+    requires { ⌜ GoodSome (now b) (placesOf (now b)) ⌝ }
     requires { ⌜ NewFile (now name) kind (now date) ⌝ }
     requires { ⌜ variable ≤ 1 ⌝ }
     ensures { λ r. ⌜ Creates [] (now (b .entry)) counts (record { name = now (name .entry); date = now (date .entry); length = long; attribute = attributeFor variable kind }) r (now (b .exit)) ⌝ }

@@ -9,7 +9,7 @@ use tables::sizes::SECTOR;
 ghost use mathlib.Core.Path.{_≡_};
 ghost use Prim.Native.Nat.{_≤_};
 ghost use Rattle.field.specs.Says.{Says};
-ghost use Rattle.tables.specs.Books.{Good};
+ghost use Rattle.tables.specs.Books.{GoodSome};
 ghost use Rattle.tables.specs.Views.{viewOf, Parent};
 ghost use Rattle.requests.specs.declared.amount.Amount.the-variants.{Is};
 ghost use Rattle.requests.specs.Moving.{wholeSectors, endOf, MoveAllowed};
@@ -51,7 +51,7 @@ pub fn move_allowed(position: Amount, long: Amount, room: usize) -> bool
 
 // The end of file f: its byte length rounded up.
 pub fn end_of(b: &[u8], p: Places, f: Index) -> u32
-    requires { ⌜ Good (now b) p ⌝ }
+    requires { ⌜ GoodSome (now b) p ⌝ }
     requires { ⌜ Parent (viewOf p (now b)) (f .0) ⌝ }
     ensures { λ r. ⌜ (r ≡ endOf (now (b .entry)) (f .0)) × (r ≤ 2147483648) ⌝ }
 {

@@ -13,7 +13,7 @@ ghost use mathlib.Core.List.{[], _∷_};
 ghost use Rattle.field.specs.Says.{Says};
 ghost use Prim.Native.Nat.{_<_};
 ghost use Rattle.tables.specs.Gates.{asks, Gate};
-ghost use Rattle.tables.specs.Books.{Good};
+ghost use Rattle.tables.specs.Books.{GoodSome};
 ghost use Rattle.tables.specs.Indexes.{deletedBit};
 ghost use Rattle.tables.specs.Views.{viewOf, Parent};
 ghost use Rattle.requests.specs.Named.{stateTests, askedTests, Unprotected, usableTests};
@@ -30,7 +30,7 @@ fn mark_number(attribute: u32, d: u32) -> u32
 
 // Numbers 8 and 9: d is 0 where an active file is needed, 1 where a deleted one is.
 pub fn state_number(b: &[u8], p: Places, id: u32, d: u32) -> u32
-    requires { ⌜ Good (now b) p ⌝ }
+    requires { ⌜ GoodSome (now b) p ⌝ }
     ensures { λ r. ⌜ Gate (stateTests d (now (b .entry)) id) r ⌝ }
 {
     if id < 1 {
@@ -47,10 +47,10 @@ pub fn state_number(b: &[u8], p: Places, id: u32, d: u32) -> u32
 }
 
 // Numbers 1 to 5, 7, 8 and 9.
-pub fn asked_number(b: &[u8], allowed: bool, id: u32, d: u32) -> u32
-    ensures { λ r. ⌜ Gate (askedTests d (now (b .entry)) (allowed ≡ true) id) r ⌝ }
+pub fn asked_number(b: &[u8], withheld: &[u32], allowed: bool, id: u32, d: u32) -> u32
+    ensures { λ r. ⌜ Gate (askedTests d (now (b .entry)) (now (withheld .entry)) (allowed ≡ true) id) r ⌝ }
 {
-    let n = argument_number(b, allowed);
+    let n = argument_number(b, withheld, allowed);
     if n != 0 {
         return n;
     }
@@ -59,7 +59,7 @@ pub fn asked_number(b: &[u8], allowed: bool, id: u32, d: u32) -> u32
 
 // Is file f not protected by weight w?
 pub fn unprotected(b: &[u8], p: Places, f: Index, w: u32) -> bool
-    requires { ⌜ Good (now b) p ⌝ }
+    requires { ⌜ GoodSome (now b) p ⌝ }
     requires { ⌜ Parent (viewOf p (now b)) (f .0) ⌝ }
     requires { ⌜ 0 < w ⌝ }
     ensures { λ r. ⌜ Says r (Unprotected w (now (b .entry)) (f .0)) ⌝ }
@@ -69,7 +69,7 @@ pub fn unprotected(b: &[u8], p: Places, f: Index, w: u32) -> bool
 
 // Numbers 8 and 9, and 10 where the file is protected by weight w.
 pub fn usable_number(b: &[u8], p: Places, id: u32, w: u32) -> u32
-    requires { ⌜ Good (now b) p ⌝ }
+    requires { ⌜ GoodSome (now b) p ⌝ }
     requires { ⌜ 0 < w ⌝ }
     ensures { λ r. ⌜ Gate (usableTests w (now (b .entry)) id) r ⌝ }
 {

@@ -21,7 +21,7 @@ ghost use mathlib.Core.Path.{_≡_};
 ghost use Prim.Native.Nat.{_≤_, _<_};
 ghost use lib.ListN.{length};
 ghost use Rattle.field.specs.Says.{Says};
-ghost use Rattle.tables.specs.Books.{Good};
+ghost use Rattle.tables.specs.Books.{GoodSome};
 ghost use Rattle.tables.specs.Gates.{Gate};
 ghost use Rattle.tables.specs.Views.{viewOf, Parent};
 ghost use Rattle.allocation.specs.Headers.{headerPlace};
@@ -40,10 +40,17 @@ fn header_allowed(long: usize, date: &[u8]) -> bool
     date_valid(date)
 }
 
-fn place_header_number(b: &[u8], body: &[u8], id: u32, long: usize, date: &[u8]) -> u32
-    ensures { λ r. ⌜ Gate (placeHeaderTests (now (b .entry)) (now (body .entry)) id long (now (date .entry))) r ⌝ }
+fn place_header_number(
+    b: &[u8],
+    withheld: &[u32],
+    body: &[u8],
+    id: u32,
+    long: usize,
+    date: &[u8],
+) -> u32
+    ensures { λ r. ⌜ Gate (placeHeaderTests (now (b .entry)) (now (withheld .entry)) (now (body .entry)) id long (now (date .entry))) r ⌝ }
 {
-    let n = lent_number(b, body, header_allowed(long, date));
+    let n = lent_number(b, withheld, body, header_allowed(long, date));
     if n != 0 {
         return n;
     }
@@ -61,7 +68,7 @@ fn place_header_number(b: &[u8], body: &[u8], id: u32, long: usize, date: &[u8])
 
 // The books with a header of n sectors at k for file f, and the date stored.
 fn put_headed(b: &mut [u8], p: Places, f: Index, n: u32, k: Found, date: &[u8])
-    requires { ⌜ Good (now b) p ⌝ }
+    requires { ⌜ GoodSome (now b) p ⌝ }
     requires { ⌜ Parent (viewOf p (now b)) (f .0) ⌝ }
     requires { ⌜ (1 ≤ n) × (n ≤ 32) ⌝ }
     requires { ⌜ (k ≡ headerPlace (viewOf p (now b)) n) × (k .zone .0 < p .zones) ⌝ }
@@ -74,10 +81,17 @@ fn put_headed(b: &mut [u8], p: Places, f: Index, n: u32, k: Found, date: &[u8])
 }
 
 // The body first: the old header's place is read from the books as they are.
-pub fn place_header(b: &mut [u8], body: &mut [u8], id: u32, content: &[u8], date: &[u8]) -> u32
-    ensures { λ r. ⌜ HeaderPlaced (now (b .entry)) (now (body .entry)) id (now (content .entry)) (now (date .entry)) r (now (b .exit)) (now (body .exit)) ⌝ }
+pub fn place_header(
+    b: &mut [u8],
+    withheld: &[u32],
+    body: &mut [u8],
+    id: u32,
+    content: &[u8],
+    date: &[u8],
+) -> u32
+    ensures { λ r. ⌜ HeaderPlaced (now (b .entry)) (now (withheld .entry)) (now (body .entry)) id (now (content .entry)) (now (date .entry)) r (now (b .exit)) (now (body .exit)) ⌝ }
 {
-    let r = place_header_number(b, body, id, content.len(), date);
+    let r = place_header_number(b, withheld, body, id, content.len(), date);
     if r != 0 {
         return r;
     }

@@ -17,15 +17,23 @@ use tables::sizes::SECTOR;
 ghost use mathlib.Core.Path.{_≡_};
 ghost use Prim.Native.Nat.{_<_};
 ghost use Rattle.tables.specs.Gates.{Gate};
-ghost use Rattle.tables.specs.Books.{Good};
+ghost use Rattle.tables.specs.Books.{GoodSome};
 ghost use Rattle.tables.specs.Views.{viewOf, Parent};
 ghost use Rattle.requests.specs.Read.{readTests, readAmount, ReadOut};
 ghost use Rattle.requests.specs.Moving.{endOf};
 
-fn read_number(b: &[u8], body: &[u8], id: u32, position: Amount, long: Amount, room: usize) -> u32
-    ensures { λ r. ⌜ Gate (readTests (now (b .entry)) (now (body .entry)) id position long room) r ⌝ }
+fn read_number(
+    b: &[u8],
+    withheld: &[u32],
+    body: &[u8],
+    id: u32,
+    position: Amount,
+    long: Amount,
+    room: usize,
+) -> u32
+    ensures { λ r. ⌜ Gate (readTests (now (b .entry)) (now (withheld .entry)) (now (body .entry)) id position long room) r ⌝ }
 {
-    let n = argument_number(b, move_allowed(position, long, room));
+    let n = argument_number(b, withheld, move_allowed(position, long, room));
     if n != 0 {
         return n;
     }
@@ -46,7 +54,7 @@ fn read_number(b: &[u8], body: &[u8], id: u32, position: Amount, long: Amount, r
 
 // The smaller of the wanted bytes and what remains.
 fn read_amount(b: &[u8], p: Places, f: Index, at: u32, long: u32) -> u32
-    requires { ⌜ Good (now b) p ⌝ }
+    requires { ⌜ GoodSome (now b) p ⌝ }
     requires { ⌜ Parent (viewOf p (now b)) (f .0) ⌝ }
     requires { ⌜ at < endOf (now b) (f .0) ⌝ }
     ensures { λ r. ⌜ r ≡ readAmount (now (b .entry)) (f .0) at long ⌝ }
@@ -61,6 +69,7 @@ fn read_amount(b: &[u8], p: Places, f: Index, at: u32, long: u32) -> u32
 
 pub fn read(
     b: &[u8],
+    withheld: &[u32],
     body: &[u8],
     id: u32,
     position: Amount,
@@ -68,9 +77,9 @@ pub fn read(
     exchange: bool,
     out: &mut [u8],
 ) -> Answer
-    ensures { λ r. ⌜ ReadOut (now (b .entry)) (now (body .entry)) id position long exchange (now (out .entry)) r (now (out .exit)) ⌝ }
+    ensures { λ r. ⌜ ReadOut (now (b .entry)) (now (withheld .entry)) (now (body .entry)) id position long exchange (now (out .entry)) r (now (out .exit)) ⌝ }
 {
-    let n = read_number(b, body, id, position, long, out.len());
+    let n = read_number(b, withheld, body, id, position, long, out.len());
     if n != 0 {
         return Answer::Refused(n);
     }

@@ -103,10 +103,10 @@ fn figures_text(f: Figures) -> Text
 }
 
 // The text of the report.
-pub fn report(b: &[u8]) -> Text
-    ensures { λ r. ⌜ Reported (now (b .entry)) r ⌝ }
+pub fn report(b: &[u8], withheld: &[u32]) -> Text
+    ensures { λ r. ⌜ Reported (now (b .entry)) (now (withheld .entry)) r ⌝ }
 {
-    let found = check(b);
+    let found = check(b, withheld);
     match found {
         Checked::Refused(n) => refused_text(n),
         Checked::Fine(p) => figures_text(gather(b, p)),

@@ -6,12 +6,12 @@ use tables::room::room;
 use tables::sector1::free_indexes;
 ghost use Prim.Native.Nat.{_≤_};
 ghost use Rattle.tables.specs.Gates.{Gate};
-ghost use Rattle.tables.specs.Books.{Good};
+ghost use Rattle.tables.specs.Books.{GoodSome};
 ghost use Rattle.requests.specs.Create.{roomTests};
 
 // Numbers 12 and 13, for blocks of these counts after l.
 pub fn room_number(b: &[u8], p: Places, l: Tail, counts: [u32; 6]) -> u32
-    requires { ⌜ Good (now b) p ⌝ }
+    requires { ⌜ GoodSome (now b) p ⌝ }
     requires { ⌜ (l .last .count ≤ 32767) × (l .tables ≤ 1) ⌝ }
     ensures { λ r. ⌜ Gate (roomTests p (now (b .entry)) l counts) r ⌝ }
 {

@@ -88,10 +88,10 @@ fn find_files(b: &[u8], p: Places, pattern: &[u8], ids: &mut [u32]) -> u32
     n as u32
 }
 
-pub fn search(b: &[u8], pattern: &[u8], ids: &mut [u32]) -> Answer
-    ensures { λ r. ⌜ Searched (now (b .entry)) (now (pattern .entry)) (now (ids .entry)) r (now (ids .exit)) ⌝ }
+pub fn search(b: &[u8], withheld: &[u32], pattern: &[u8], ids: &mut [u32]) -> Answer
+    ensures { λ r. ⌜ Searched (now (b .entry)) (now (withheld .entry)) (now (pattern .entry)) (now (ids .entry)) r (now (ids .exit)) ⌝ }
 {
-    let n = argument_number(b, pattern_allowed(pattern));
+    let n = argument_number(b, withheld, pattern_allowed(pattern));
     if n != 0 {
         return Answer::Refused(n);
     }

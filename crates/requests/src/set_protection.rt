@@ -21,16 +21,16 @@ fn protect_allowed(w: u32, date: &[u8]) -> bool
     date_valid(date)
 }
 
-fn protect_number(b: &[u8], id: u32, w: u32, date: &[u8]) -> u32
-    ensures { λ r. ⌜ Gate (protectTests (now (b .entry)) id w (now (date .entry))) r ⌝ }
+fn protect_number(b: &[u8], withheld: &[u32], id: u32, w: u32, date: &[u8]) -> u32
+    ensures { λ r. ⌜ Gate (protectTests (now (b .entry)) (now (withheld .entry)) id w (now (date .entry))) r ⌝ }
 {
-    asked_number(b, protect_allowed(w, date), id, 0)
+    asked_number(b, withheld, protect_allowed(w, date), id, 0)
 }
 
-pub fn set_protection(b: &mut [u8], id: u32, w: u32, date: &[u8]) -> u32
-    ensures { λ r. ⌜ Protected (now (b .entry)) id w (now (date .entry)) r (now (b .exit)) ⌝ }
+pub fn set_protection(b: &mut [u8], withheld: &[u32], id: u32, w: u32, date: &[u8]) -> u32
+    ensures { λ r. ⌜ Protected (now (b .entry)) (now (withheld .entry)) id w (now (date .entry)) r (now (b .exit)) ⌝ }
 {
-    let n = protect_number(b, id, w, date);
+    let n = protect_number(b, withheld, id, w, date);
     if n != 0 {
         return n;
     }

@@ -20,10 +20,10 @@ pub struct Part {
 }
 
 // Show's number.
-pub fn show_number(b: &[u8], body: &[u8], id: u32, k: u32) -> u32
-    ensures { λ r. ⌜ Gate (showTests (now (b .entry)) (now (body .entry)) id k) r ⌝ }
+pub fn show_number(b: &[u8], withheld: &[u32], body: &[u8], id: u32, k: u32) -> u32
+    ensures { λ r. ⌜ Gate (showTests (now (b .entry)) (now (withheld .entry)) (now (body .entry)) id k) r ⌝ }
 {
-    let n = use_number(b);
+    let n = use_number(b, withheld);
     if n != 0 {
         return n;
     }
@@ -43,10 +43,10 @@ pub fn show_number(b: &[u8], body: &[u8], id: u32, k: u32) -> u32
 }
 
 // Where the part lies; at 0 with no bytes on a refusal.
-pub fn show_part(b: &[u8], body: &[u8], id: u32, k: u32) -> Part
-    ensures { λ r. ⌜ ShownAt (now (b .entry)) (now (body .entry)) id k r ⌝ }
+pub fn show_part(b: &[u8], withheld: &[u32], body: &[u8], id: u32, k: u32) -> Part
+    ensures { λ r. ⌜ ShownAt (now (b .entry)) (now (withheld .entry)) (now (body .entry)) id k r ⌝ }
 {
-    if show_number(b, body, id, k) != 0 {
+    if show_number(b, withheld, body, id, k) != 0 {
         return Part { at: 0, len: 0 };
     }
     let f = Index(id);
@@ -57,10 +57,10 @@ pub fn show_part(b: &[u8], body: &[u8], id: u32, k: u32) -> Part
 }
 
 // The part itself.
-pub fn show<'a, 'b>(b: &'a [u8], body: &'b [u8], id: u32, k: u32) -> &'b [u8]
-    ensures { λ r. ⌜ Shown (now (b .entry)) (now (body .entry)) id k (now r) ⌝ }
+pub fn show<'a, 'b>(b: &'a [u8], withheld: &'a [u32], body: &'b [u8], id: u32, k: u32) -> &'b [u8]
+    ensures { λ r. ⌜ Shown (now (b .entry)) (now (withheld .entry)) (now (body .entry)) id k (now r) ⌝ }
 {
-    let part = show_part(b, body, id, k);
+    let part = show_part(b, withheld, body, id, k);
     let at = part.at;
     let end = at + part.len;
     &body[at..end]

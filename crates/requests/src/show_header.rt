@@ -15,10 +15,10 @@ ghost use Rattle.tables.specs.Gates.{Gate};
 ghost use Rattle.requests.specs.Header.{showHeaderTests, HeaderShownAt, HeaderShown};
 
 // Show header's number.
-pub fn header_number(b: &[u8], body: &[u8], id: u32) -> u32
-    ensures { λ r. ⌜ Gate (showHeaderTests (now (b .entry)) (now (body .entry)) id) r ⌝ }
+pub fn header_number(b: &[u8], withheld: &[u32], body: &[u8], id: u32) -> u32
+    ensures { λ r. ⌜ Gate (showHeaderTests (now (b .entry)) (now (withheld .entry)) (now (body .entry)) id) r ⌝ }
 {
-    let n = use_number(b);
+    let n = use_number(b, withheld);
     if n != 0 {
         return n;
     }
@@ -39,10 +39,10 @@ pub fn header_number(b: &[u8], body: &[u8], id: u32) -> u32
 }
 
 // Where the header lies; at 0 with no bytes on a refusal.
-pub fn header_part(b: &[u8], body: &[u8], id: u32) -> Part
-    ensures { λ r. ⌜ HeaderShownAt (now (b .entry)) (now (body .entry)) id r ⌝ }
+pub fn header_part(b: &[u8], withheld: &[u32], body: &[u8], id: u32) -> Part
+    ensures { λ r. ⌜ HeaderShownAt (now (b .entry)) (now (withheld .entry)) (now (body .entry)) id r ⌝ }
 {
-    if header_number(b, body, id) != 0 {
+    if header_number(b, withheld, body, id) != 0 {
         return Part { at: 0, len: 0 };
     }
     let f = Index(id);
@@ -54,10 +54,10 @@ pub fn header_part(b: &[u8], body: &[u8], id: u32) -> Part
 }
 
 // The header itself.
-pub fn show_header<'a, 'b>(b: &'a [u8], body: &'b [u8], id: u32) -> &'b [u8]
-    ensures { λ r. ⌜ HeaderShown (now (b .entry)) (now (body .entry)) id (now r) ⌝ }
+pub fn show_header<'a, 'b>(b: &'a [u8], withheld: &'a [u32], body: &'b [u8], id: u32) -> &'b [u8]
+    ensures { λ r. ⌜ HeaderShown (now (b .entry)) (now (withheld .entry)) (now (body .entry)) id (now r) ⌝ }
 {
-    let part = header_part(b, body, id);
+    let part = header_part(b, withheld, body, id);
     let at = part.at;
     let end = at + part.len;
     &body[at..end]

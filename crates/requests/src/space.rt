@@ -7,7 +7,7 @@ use tables::sizes::ZONE;
 ghost use mathlib.Core.Path.{_≡_};
 ghost use Prim.Native.Nat.{_*_};
 ghost use Rattle.tables.specs.Sector0.{zonesOf};
-ghost use Rattle.tables.specs.Books.{Good};
+ghost use Rattle.tables.specs.Books.{GoodSome};
 ghost use Rattle.tables.specs.Places.{placesOf};
 ghost use Rattle.requests.specs.Space.{usedSectors, Spaced};
 
@@ -17,16 +17,16 @@ pub enum Space {
 }
 
 fn measure(b: &[u8], p: Places) -> Space
-    requires { ⌜ Good (now b) p ⌝ }
+    requires { ⌜ GoodSome (now b) p ⌝ }
     ensures { λ r. ⌜ r ≡ Space.Is (1024 * zonesOf (now (b .entry))) (usedSectors (placesOf (now (b .entry))) (now (b .entry))) ⌝ }
 {
     Space::Is(ZONE * p.zones, used_sectors(b, p))
 }
 
-pub fn space_of(b: &[u8]) -> Space
-    ensures { λ r. ⌜ Spaced (now (b .entry)) r ⌝ }
+pub fn space_of(b: &[u8], withheld: &[u32]) -> Space
+    ensures { λ r. ⌜ Spaced (now (b .entry)) (now (withheld .entry)) r ⌝ }
 {
-    let found = judge(b, 0, 5);
+    let found = judge(b, withheld, 0, 5);
     match found {
         Checked::Refused(n) => Space::Refused(n),
         Checked::Fine(p) => measure(b, p),

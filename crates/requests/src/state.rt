@@ -11,7 +11,7 @@ use tables::sector1;
 ghost use mathlib.Core.Path.{_≡_};
 ghost use Prim.Native.Nat.{_≤_, _<_};
 ghost use lib.ListN.{length};
-ghost use Rattle.tables.specs.Books.{Good};
+ghost use Rattle.tables.specs.Books.{GoodSome};
 ghost use Rattle.tables.specs.Indexes.{tableAt, attributeOf, deletedBit};
 ghost use Rattle.tables.specs.Places.{Layout};
 ghost use Rattle.tables.specs.Views.{viewOf, Parent};
@@ -50,7 +50,7 @@ fn protection_of(a: u32, w: u32) -> u32
 
 // File f temporarily deleted.
 pub fn remove(b: &mut [u8], p: Places, f: Index, date: &[u8])
-    requires { ⌜ Good (now b) p ⌝ }
+    requires { ⌜ GoodSome (now b) p ⌝ }
     requires { ⌜ Parent (viewOf p (now b)) (f .0) ⌝ }
     requires { ⌜ deletedBit (attributeOf (tableAt p (now b) (f .0))) ≡ 0 ⌝ }
     requires { ⌜ length (now date) ≡ 6 ⌝ }
@@ -67,7 +67,7 @@ pub fn remove(b: &mut [u8], p: Places, f: Index, date: &[u8])
 
 // File f recovered.
 pub fn restore(b: &mut [u8], p: Places, f: Index, date: &[u8])
-    requires { ⌜ Good (now b) p ⌝ }
+    requires { ⌜ GoodSome (now b) p ⌝ }
     requires { ⌜ Parent (viewOf p (now b)) (f .0) ⌝ }
     requires { ⌜ deletedBit (attributeOf (tableAt p (now b) (f .0))) ≡ 1 ⌝ }
     requires { ⌜ length (now date) ≡ 6 ⌝ }
@@ -84,7 +84,7 @@ pub fn restore(b: &mut [u8], p: Places, f: Index, date: &[u8])
 
 // File f with w for its protection.
 pub fn protect(b: &mut [u8], p: Places, f: Index, w: u32, date: &[u8])
-    requires { ⌜ Good (now b) p ⌝ }
+    requires { ⌜ GoodSome (now b) p ⌝ }
     requires { ⌜ Parent (viewOf p (now b)) (f .0) ⌝ }
     requires { ⌜ (w ≤ 12) × (length (now date) ≡ 6) ⌝ }
     ensures { λ _. ⌜ now (b .exit) ≡ protected p (now (b .entry)) (f .0) w (now (date .entry)) ⌝ }

@@ -12,20 +12,26 @@ use tables::places::read_places;
 ghost use Rattle.tables.specs.Gates.{Gate};
 ghost use Rattle.requests.specs.State.{removeTests, Removed};
 
-fn remove_number(b: &[u8], body: &[u8], id: u32, date: &[u8]) -> u32
-    ensures { λ r. ⌜ Gate (removeTests (now (b .entry)) (now (body .entry)) id (now (date .entry))) r ⌝ }
+fn remove_number(b: &[u8], withheld: &[u32], body: &[u8], id: u32, date: &[u8]) -> u32
+    ensures { λ r. ⌜ Gate (removeTests (now (b .entry)) (now (withheld .entry)) (now (body .entry)) id (now (date .entry))) r ⌝ }
 {
-    let n = lent_number(b, body, date_valid(date));
+    let n = lent_number(b, withheld, body, date_valid(date));
     if n != 0 {
         return n;
     }
     usable_number(b, read_places(b), id, WRITE_PROTECTED)
 }
 
-pub fn temporary_delete(b: &mut [u8], body: &mut [u8], id: u32, date: &[u8]) -> u32
-    ensures { λ r. ⌜ Removed (now (b .entry)) (now (body .entry)) id (now (date .entry)) r (now (b .exit)) (now (body .exit)) ⌝ }
+pub fn temporary_delete(
+    b: &mut [u8],
+    withheld: &[u32],
+    body: &mut [u8],
+    id: u32,
+    date: &[u8],
+) -> u32
+    ensures { λ r. ⌜ Removed (now (b .entry)) (now (withheld .entry)) (now (body .entry)) id (now (date .entry)) r (now (b .exit)) (now (body .exit)) ⌝ }
 {
-    let n = remove_number(b, body, id, date);
+    let n = remove_number(b, withheld, body, id, date);
     if n != 0 {
         return n;
     }

@@ -27,7 +27,7 @@ ghost use Prim.Native.Nat.{_+_, _≤_, _<_};
 ghost use lib.ListN.{length};
 ghost use Rattle.field.specs.Says.{Says};
 ghost use Rattle.tables.specs.Gates.{Gate};
-ghost use Rattle.tables.specs.Books.{Good};
+ghost use Rattle.tables.specs.Books.{GoodSome};
 ghost use Rattle.tables.specs.Places.{placesOf, Layout};
 ghost use Rattle.tables.specs.Views.{viewOf, Parent};
 ghost use Rattle.requests.specs.Write.{WriteAllowed, Within, askedLength, moveTests, writeTests, settle, writtenBooks, Writes, Wrote};
@@ -43,7 +43,7 @@ fn write_allowed(position: Amount, long: Amount, room: usize, date: &[u8]) -> bo
 
 // May n bytes be written at this position?
 fn within(b: &[u8], p: Places, f: Index, at: u32, n: u32) -> bool
-    requires { ⌜ Good (now b) p ⌝ }
+    requires { ⌜ GoodSome (now b) p ⌝ }
     requires { ⌜ Parent (viewOf p (now b)) (f .0) ⌝ }
     requires { ⌜ (at ≤ 2147483647) × (n ≤ 2147483647) ⌝ }
     ensures { λ r. ⌜ Says r (Within (now (b .entry)) (f .0) at n) ⌝ }
@@ -60,7 +60,7 @@ fn within(b: &[u8], p: Places, f: Index, at: u32, n: u32) -> bool
 
 // The byte length that the write asks for.
 fn asked_length(b: &[u8], p: Places, f: Index, at: u32, n: u32) -> u32
-    requires { ⌜ Good (now b) p ⌝ }
+    requires { ⌜ GoodSome (now b) p ⌝ }
     requires { ⌜ Parent (viewOf p (now b)) (f .0) ⌝ }
     requires { ⌜ at + n < 4294967296 ⌝ }
     ensures { λ r. ⌜ r ≡ askedLength (now (b .entry)) (f .0) at n ⌝ }
@@ -76,7 +76,7 @@ fn asked_length(b: &[u8], p: Places, f: Index, at: u32, n: u32) -> u32
 
 // Numbers 8, 9, 10, 14, 12 and 13.
 fn move_number(b: &[u8], p: Places, id: u32, at: u32, n: u32) -> u32
-    requires { ⌜ Good (now b) p ⌝ }
+    requires { ⌜ GoodSome (now b) p ⌝ }
     requires { ⌜ (at ≤ 2147483647) × (n ≤ 2147483647) ⌝ }
     ensures { λ r. ⌜ Gate (moveTests (now (b .entry)) id at n) r ⌝ }
 {
@@ -93,6 +93,7 @@ fn move_number(b: &[u8], p: Places, id: u32, at: u32, n: u32) -> u32
 
 fn write_number(
     b: &[u8],
+    withheld: &[u32],
     body: &[u8],
     id: u32,
     position: Amount,
@@ -100,9 +101,9 @@ fn write_number(
     room: usize,
     date: &[u8],
 ) -> u32
-    ensures { λ r. ⌜ Gate (writeTests (now (b .entry)) (now (body .entry)) id position long room (now (date .entry))) r ⌝ }
+    ensures { λ r. ⌜ Gate (writeTests (now (b .entry)) (now (withheld .entry)) (now (body .entry)) id position long room (now (date .entry))) r ⌝ }
 {
-    let n = argument_number(b, write_allowed(position, long, room, date));
+    let n = argument_number(b, withheld, write_allowed(position, long, room, date));
     if n != 0 {
         return n;
     }
@@ -132,7 +133,7 @@ fn settle(b: &mut [u8], f: Index, date: &[u8])
 
 // The books once n bytes, some at least, are written at this position.
 fn put_written(b: &mut [u8], f: Index, at: u32, n: u32, date: &[u8])
-    requires { ⌜ Good (now b) (placesOf (now b)) ⌝ }
+    requires { ⌜ GoodSome (now b) (placesOf (now b)) ⌝ }
     requires { ⌜ Parent (viewOf (placesOf (now b)) (now b)) (f .0) ⌝ }
     requires { ⌜ Writes (now b) (f .0) at n (now date) ⌝ }
     ensures { λ _. ⌜ now (b .exit) ≡ writtenBooks (now (b .entry)) (f .0) at n (now (date .entry)) ⌝ }
@@ -145,6 +146,7 @@ fn put_written(b: &mut [u8], f: Index, at: u32, n: u32, date: &[u8])
 
 pub fn write(
     b: &mut [u8],
+    withheld: &[u32],
     body: &mut [u8],
     id: u32,
     position: Amount,
@@ -153,9 +155,9 @@ pub fn write(
     input: &[u8],
     date: &[u8],
 ) -> Answer
-    ensures { λ r. ⌜ Wrote (now (b .entry)) (now (body .entry)) id position long exchange (now (input .entry)) (now (date .entry)) r (now (b .exit)) (now (body .exit)) ⌝ }
+    ensures { λ r. ⌜ Wrote (now (b .entry)) (now (withheld .entry)) (now (body .entry)) id position long exchange (now (input .entry)) (now (date .entry)) r (now (b .exit)) (now (body .exit)) ⌝ }
 {
-    let m = write_number(b, body, id, position, long, input.len(), date);
+    let m = write_number(b, withheld, body, id, position, long, input.len(), date);
     if m != 0 {
         return Answer::Refused(m);
     }

@@ -20,7 +20,8 @@ use Rattle.tables.specs.Zones.{zoneAt}
 use Rattle.tables.specs.Indexes.{tableAt, wordOf, linkOf}
 use Rattle.tables.specs.Views.{viewOf}
 use Rattle.tables.specs.Books.{Marked, Placed}
-use Rattle.tables.specs.Lawful.{Lawful}
+use Rattle.tables.specs.Lawful.{LawfulWith}
+use Rattle.tables.specs.Rules.R7.{nothing}
 use Rattle.tables.specs.Rules.R1.{Tails}
 use Rattle.tables.specs.Rules.R2.{Reads}
 use Rattle.tables.specs.Format.{Label, Formattable, Writable, freshPlaces, putLabel, putSizes, putStarts, putStatus, putSystemZones, putLinks, formatted}
@@ -320,7 +321,7 @@ module _ (len z n : ℕ) (l : Label) (long : 5120 ≤ len) (f : Formattable len 
     sector = λ k h. k₆ .out (p .sectortable + 128 * z + k) (inl (omega arith)) ∙ tails-null (p .sectortable + 128 * z + k) (omega arith) (inr (omega (arith, zoneEnd))) (inr (omega arith));
   }
 
-  lawful : Lawful p chained
+  lawful : LawfulWith nothing p chained
   lawful = record {
     r1 = record { stand = rw len₆ (f .stand); tails = tails };
     r2 = fresh-R2 (viewOf p chained) fresh;
@@ -333,6 +334,6 @@ module _ (len z n : ℕ) (l : Label) (long : 5120 ≤ len) (f : Formattable len 
     r9 = fresh-R9 (viewOf p chained) fresh;
   }
 
-pub format-lawful : (len z n : ℕ) (l : Label) → 5120 ≤ len → len ≤ 1048576 → Formattable len z n → Writable l → Lawful (freshPlaces z n) (formatted len z n l)
+pub format-lawful : (len z n : ℕ) (l : Label) → 5120 ≤ len → len ≤ 1048576 → Formattable len z n → Writable l → LawfulWith nothing (freshPlaces z n) (formatted len z n l)
 unfolding books
 format-lawful len z n l long small f w = rw (books-are len z n l long f w) (lawful len z n l long f w)

@@ -14,7 +14,7 @@ use Rattle.tables.specs.Rules.R3.{R3}
 use Rattle.tables.specs.Rules.R4.{R4}
 use Rattle.tables.specs.Rules.R5.{R5}
 use Rattle.tables.specs.Rules.R6.{R6}
-use Rattle.tables.specs.Rules.R7.{R7}
+use Rattle.tables.specs.Rules.R7.{Owned, nothing}
 use Rattle.tables.specs.Rules.R8.{R8}
 use Rattle.tables.specs.Rules.R9.{freeOne, activeOne, deletedOne, systemOne, directoryOne, R9}
 use Rattle.tables.proofs.IndexLaws.{slots-free}
@@ -121,7 +121,7 @@ module _ (v : View) (f : Fresh v) where
     header = λ e. absurd (omega arith);
   })
 
-  pub fresh-R7 : R7 v
+  pub fresh-R7 : Owned v nothing
   unfolding claimsOver
   fresh-R7 = record { count = λ s l lo. omega (arith, none (λ i t. claimsOf i t s) (λ i t h e. over-none i t s h e), f .clear s l lo) }
 

@@ -6,9 +6,11 @@ use Prim.Native.Nat.{ℕ}
 use lib.ListN.{length}
 use Rattle.tables.specs.declared.places.Places.{Places}
 use Rattle.tables.specs.Gates.{Test, asks, Gate}
-use Rattle.tables.specs.Books.{Sized, Marked, Placed, Good, bookTests}
+use Rattle.tables.specs.Books.{Sized, Marked, Placed, Good, GoodSome, bookTests}
 use Rattle.tables.specs.Places.{placesOf}
 use Rattle.tables.specs.Lawful.{Lawful}
+use Rattle.tables.specs.Views.{viewOf}
+use Rattle.tables.specs.Withheld.{Withholds}
 use Rattle.tables.proofs.PlaceLaws.{stand-layout}
 
 -- whatever the conditions are, one number is answered
@@ -74,31 +76,55 @@ gate-swap [] us n P Q r f g (inr h) = inr (λ q. h .0 (g q), h .1, h .2)
 gate-swap (t ∷ ts) us n P Q r f g (inl h) = inl (h .0, gate-swap ts us n P Q r f g (h .1))
 gate-swap (t ∷ ts) us n P Q r f g (inr h) = inr h
 
+-- a condition that holds may stand among the tests, or not
+pub gate-slip : (ts us : List Test) (r n : ℕ) (P : Type 0) → P → Gate (ts ++ us) r → Gate (ts ++ (asks n P ∷ us)) r
+unfolding Gate
+gate-slip [] us r n P p g = inl (p, g)
+gate-slip (t ∷ ts) us r n P p (inl h) = inl (h .0, gate-slip ts us r n P p (h .1))
+gate-slip (t ∷ ts) us r n P p (inr h) = inr h
+
+pub slip-gate : (ts us : List Test) (r n : ℕ) (P : Type 0) → P → Gate (ts ++ (asks n P ∷ us)) r → Gate (ts ++ us) r
+unfolding Gate
+slip-gate [] us r n P p (inl h) = h .1
+slip-gate [] us r n P p (inr h) = absurd (h .0 p)
+slip-gate (t ∷ ts) us r n P p (inl h) = inl (h .0, slip-gate ts us r n P p (h .1))
+slip-gate (t ∷ ts) us r n P p (inr h) = inr h
+
 -- ---- the books' own tests
 
--- books that no number refuses are good
-pub zero-good : (b : List ℕ) → Gate (bookTests b) 0 → Good b (placesOf b)
-zero-good b g =
+-- books and a withheld list that no number refuses are good
+pub zero-good : (b withheld : List ℕ) → Gate (bookTests b withheld) 0 → Good b withheld (placesOf b)
+zero-good b withheld g =
     let s = gate-head 1 (Sized b) _ g in
     let m = gate-head 2 (Marked b) _ (s .1) in
     let p = gate-head 3 (Placed b) _ (m .1) in
-    let l = gate-head 4 (Lawful (placesOf b) b) _ (p .1) in
+    let w = gate-head 7 (Withholds (viewOf (placesOf b) b) withheld) _ (p .1) in
+    let l = gate-head 4 (Lawful (placesOf b) b withheld) _ (w .1) in
     let limits = p .0 .limits in
     record {
-      places = refl;
-      sized = s .0;
-      marked = m .0;
-      placed = p .0;
-      layout = stand-layout (placesOf b) (length b) (limits .least) (limits .most) (limits .some) (limits .few) (s .0 .most) (p .0 .stand);
-      lawful = l .0;
+      list = w .0;
+      books = record {
+        places = refl;
+        sized = s .0;
+        marked = m .0;
+        placed = p .0;
+        layout = stand-layout (placesOf b) (length b) (limits .least) (limits .most) (limits .some) (limits .few) (s .0 .most) (p .0 .stand);
+        lawful = l .0;
+      };
     }
 
-pub good-zero : (b : List ℕ) (p : Places) → Good b p → Gate (bookTests b) 0
+-- with something set besides
+pub zero-some : (b withheld : List ℕ) → Gate (bookTests b withheld) 0 → GoodSome b (placesOf b)
+zero-some b withheld g = (_, zero-good b withheld g .books)
+
+pub good-zero : (b withheld : List ℕ) (p : Places) → Good b withheld p → Gate (bookTests b withheld) 0
 unfolding Gate
-good-zero b p g = inl (g .sized, inl (g .marked, inl (g .placed, inl (rw (← g .places) (g .lawful), refl))))
+good-zero b withheld p h =
+    let g = h .books in
+    inl (g .sized, inl (g .marked, inl (g .placed, inl (rw (g .places) at (h .list), inl (rw (g .places) at (g .lawful), refl)))))
 
-pub good-gate : (b : List ℕ) (p : Places) (us : List Test) (s : ℕ) → Good b p → Gate us s → Gate (bookTests b ++ us) s
-good-gate b p us s g h = gate-skip (bookTests b) us 0 s (good-zero b p g) refl h
+pub good-gate : (b withheld : List ℕ) (p : Places) (us : List Test) (s : ℕ) → Good b withheld p → Gate us s → Gate (bookTests b withheld ++ us) s
+good-gate b withheld p us s g h = gate-skip (bookTests b withheld) us 0 s (good-zero b withheld p g) refl h
 
-pub bad-gate : (b : List ℕ) (us : List Test) (n : ℕ) → Gate (bookTests b) n × (n ≢ 0) → Gate (bookTests b ++ us) n
-bad-gate b us n h = gate-stop (bookTests b) us n (h .0) (h .1)
+pub bad-gate : (b withheld : List ℕ) (us : List Test) (n : ℕ) → Gate (bookTests b withheld) n × (n ≢ 0) → Gate (bookTests b withheld ++ us) n
+bad-gate b withheld us n h = gate-stop (bookTests b withheld) us n (h .0) (h .1)

@@ -18,6 +18,8 @@ pub mod FlagCards
 pub mod LackLaws
 pub mod ChoiceLaws
 pub mod RoomLaws
+pub mod WithheldLaws
+pub mod TotalLaws
 pub mod RoomWorked
 pub mod SameLaws
 pub mod FrameLaws

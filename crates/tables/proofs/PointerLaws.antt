@@ -10,7 +10,7 @@ use Rattle.field.proofs.Sums.{sum-zero, sum-some, sum-single, sum-part, sum-onc
 use Rattle.tables.specs.Indexes.{wordOf, slotsOf, startOf, countOf, headerStart, headerCount}
 use Rattle.tables.specs.Views.{View, onlyIf, cov, overOf, tally, pointersOver, headerOver, headersOver, claimsOf, claimsOver, Under, UnderHeader}
 use Rattle.tables.specs.Rules.R6.{HeaderRun, R6}
-use Rattle.tables.specs.Rules.R7.{Owned, R7, Owner, SectorWords}
+use Rattle.tables.specs.Rules.R7.{Owned, Owner}
 use Rattle.tables.proofs.IndexLaws.{slots-free}
 
 -- ---- runs
@@ -263,35 +263,3 @@ module _ (v : View) (s : ℕ) (one : (i j k l : ℕ) → Under v i j s → Under
       let b = over-place (m + 1) (omega arith) (omega arith) hm in
       let e : n + 1 ≡ m + 1 = one (n + 1) (a .0) (m + 1) (b .0) (a .1) (b .1) .0 in
       omega arith))
-
-module _ (v : View) (s : ℕ) (bit : v .bit s < 2) where
-  -- the words at a sector are the count, and nothing else
-  pub words-count : SectorWords v s → claimsOver v s ≡ v .bit s
-  words-count w =
-      let once = over-once v s (w .one) in
-      let headers = headers-once v s (w .header) in
-      elim (decLt 0 (pointersOver v s)) [
-        | yes p ↦ (let u = under-some v s p in
-            elim (decLt 0 (headersOver v s)) [ yes q ↦ (let h = header-some v s q in absurd (w .apart (u .0) (u .1) (h .0) (u .2) (h .1))) | no q ↦ omega (arith, w .under (u .0) (u .1) (u .2), claims-are v s) ])
-        | no p ↦ elim (decLt 0 (headersOver v s)) [
-          | yes q ↦ (let h = header-some v s q in omega (arith, w .headed (h .0) (h .1), claims-are v s))
-          | no q ↦ elim (ℕ-discrete (v .bit s) 1) [
-            | yes e ↦ absurd (⊎-elim (λ u. omega (arith, under-counts v s (u .0) (u .1) (u .2))) (λ u. omega (arith, header-counts v s (u .0) (u .1))) (w .set e))
-            | no ne ↦ omega (arith, claims-are v s)
-          ]
-        ]
-      ]
-
-  pub count-words : claimsOver v s ≡ v .bit s → SectorWords v s
-  count-words e = record {
-    one = λ i j k l u w. under-one v s (omega (arith, claims-are v s)) i j u k l w;
-    header = λ i k u w. header-one v s (omega (arith, claims-are v s)) i k u w;
-    apart = λ i j k u w. omega (arith, claims-are v s, under-counts v s i j u, header-counts v s k w);
-    set = λ h. claimed-owner v s (omega arith);
-    under = λ i j u. omega (arith, under-claims v s i j u);
-    headed = λ i u. omega (arith, header-claims v s i u);
-  }
-
--- R7 follows from the words at each sector outside zones 1 and Z
-pub words-R7 : (v : View) → ((s : ℕ) → v .bit s < 2) → ((s : ℕ) → s < 1024 * (v .zones - 1) → 1024 ≤ s → SectorWords v s) → R7 v
-words-R7 v bits h = record { count = λ s l lo. omega (arith, words-count v s (bits s) (h s l lo)) }

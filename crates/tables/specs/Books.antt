@@ -1,4 +1,4 @@
--- What numbers 1 to 4 ask of the books, before any request.
+-- What numbers 1 to 4 ask of the books, and 7 of the withheld list, before any request.
 use mathlib.Core.Path.{_≡_}
 use Prim.Native.Nat.{ℕ, _%_, _≤_}
 use mathlib.Core.List.{List, [], _∷_, _++_}
@@ -9,7 +9,8 @@ use Rattle.tables.specs.declared.places.Places.{Places}
 use Rattle.tables.specs.Gates.{Test, asks}
 use Rattle.tables.specs.Places.{placesOf, Layout}
 use Rattle.tables.specs.Rules.R1.{Stand}
-use Rattle.tables.specs.Rules.R7.{nothing}
+use Rattle.tables.specs.Views.{viewOf}
+use Rattle.tables.specs.Withheld.{Withholds, withheldOver}
 use Rattle.tables.specs.Lawful.{LawfulWith, Lawful}
 
 -- 1 "books not S × 1,024 bytes, S allowed", 5 to 1,024
@@ -41,11 +42,15 @@ pub record Placed (b : List ℕ) : Type 0 where
 abbrev pub placeTests : List ℕ → List Test
 placeTests b = asks 1 (Sized b) ∷ asks 2 (Marked b) ∷ asks 3 (Placed b) ∷ []
 
--- then 4 "another rule broken"
-abbrev pub bookTests : List ℕ → List Test
-bookTests b = placeTests b ++ (asks 4 (Lawful (placesOf b) b) ∷ [])
+-- then 7 for the withheld list, "examined between 3 and 4" (W7)
+abbrev pub withheldTests : List ℕ → List ℕ → List Test
+withheldTests b withheld = placeTests b ++ (asks 7 (Withholds (viewOf (placesOf b) b) withheld) ∷ [])
 
--- books that none of them refuses, with their places, R7 with `extra` set besides
+-- then 4 "another rule broken"
+abbrev pub bookTests : List ℕ → List ℕ → List Test
+bookTests b withheld = withheldTests b withheld ++ (asks 4 (Lawful (placesOf b) b withheld) ∷ [])
+
+-- books that numbers 1 to 4 do not refuse, with their places, R7 with `extra` set besides
 pub record GoodWith (extra : ℕ → ℕ) (b : List ℕ) (p : Places) : Type 0 where
   pub places : p ≡ placesOf b
   pub sized : Sized b
@@ -54,6 +59,11 @@ pub record GoodWith (extra : ℕ → ℕ) (b : List ℕ) (p : Places) : Type 0 w
   pub layout : Layout p (length b)
   pub lawful : LawfulWith extra p b
 
--- books that none of them refuses
-abbrev pub Good : List ℕ → Places → Type 0
-Good = GoodWith nothing
+-- books and a withheld list that none of these tests refuses
+pub record Good (b withheld : List ℕ) (p : Places) : Type 0 where
+  pub list : Withholds (viewOf p b) withheld
+  pub books : GoodWith (withheldOver (viewOf p b) withheld) b p
+
+-- good books, whatever is set besides
+abbrev pub GoodSome : List ℕ → Places → Type 0
+GoodSome b p = (extra : ℕ → ℕ) × GoodWith extra b p

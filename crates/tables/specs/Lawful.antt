@@ -3,13 +3,14 @@ use mathlib.Core.List.{List}
 use Prim.Native.Nat.{ℕ}
 use Rattle.tables.specs.declared.places.Places.{Places}
 use Rattle.tables.specs.Views.{viewOf}
+use Rattle.tables.specs.Withheld.{withheldOver}
 use Rattle.tables.specs.Rules.R1.{R1}
 use Rattle.tables.specs.Rules.R2.{R2}
 use Rattle.tables.specs.Rules.R3.{R3}
 use Rattle.tables.specs.Rules.R4.{R4}
 use Rattle.tables.specs.Rules.R5.{R5}
 use Rattle.tables.specs.Rules.R6.{R6}
-use Rattle.tables.specs.Rules.R7.{Owned, nothing}
+use Rattle.tables.specs.Rules.R7.{Owned}
 use Rattle.tables.specs.Rules.R8.{R8}
 use Rattle.tables.specs.Rules.R9.{R9}
 
@@ -25,6 +26,10 @@ pub record LawfulWith (extra : ℕ → ℕ) (p : Places) (b : List ℕ) : Type 0
   pub r8 : R8 (viewOf p b)
   pub r9 : R9 (viewOf p b)
 
--- they break no rule
-abbrev pub Lawful : Places → List ℕ → Type 0
-Lawful = LawfulWith nothing
+-- with the withheld sectors set besides: they break no rule
+abbrev pub Lawful : Places → List ℕ → List ℕ → Type 0
+Lawful p b withheld = LawfulWith (withheldOver (viewOf p b) withheld) p b
+
+-- whatever is set besides: all that reading and writing of tables asks
+abbrev pub LawfulSome : Places → List ℕ → Type 0
+LawfulSome p b = (extra : ℕ → ℕ) × LawfulWith extra p b

@@ -12,6 +12,8 @@ pub mod Entries
 pub mod Each
 pub mod Views
 pub mod Open
+pub mod Withheld
+pub mod Totals
 pub mod Rules
 pub mod Lawful
 pub mod Format

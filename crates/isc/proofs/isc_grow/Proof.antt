@@ -17,9 +17,9 @@ same-length c = search needs
 
 returns : tie.Need-returns
 returns c =
-    let a = c .before .before .before .before .before .before .before in
+    let a = c .before .before .before .before .before .before .before .before in
     let e : c .before .before .before .amount-of .result ≡ amountOf (a .args .length) = c .before .before .before .amount-of .ensures ∙ ap amountOf (toZ-ofZ (a .fits .length)) in
-    grow-border _ _ _ _ (a .args .length) _ _ e (c .before .before .grow .ensures)
+    grow-border _ _ _ _ _ (a .args .length) _ _ e (c .before .before .grow .ensures)
 
 pub isc-grow-spec : {M : Type 1} → statement M
 isc-grow-spec = tie.close (tie.spec amount-of-requires grow-requires same-length returns)

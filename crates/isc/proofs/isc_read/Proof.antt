@@ -10,15 +10,15 @@ use Rattle.isc.proofs.isc_read.Tie as tie
 
 returns : tie.Need-returns
 returns c =
-    let a = c .before .before .before .before .before .before .before .before .before .before .before in
+    let a = c .before .before .before .before .before .before .before .before .before .before .before .before in
     let e₁ : c .before .before .before .before .before .before .before .amount-of .result ≡ amountOf (a .args .position) = c .before .before .before .before .before .before .before .amount-of .ensures ∙ ap amountOf (toZ-ofZ (a .fits .position)) in
     let e₂ : c .before .before .before .before .before .before .amount-of2 .result ≡ amountOf (a .args .length) = c .before .before .before .before .before .before .amount-of2 .ensures ∙ ap amountOf (toZ-ofZ (a .fits .length)) in
     answer-out
-    (λ r. ReadOut (a .args .books .now) (a .args .body .now) (a .args .id) (amountOf (a .args .position)) (amountOf (a .args .length)) (asked (a .args .exchange)) (a .args .out .now) r _)
+    (λ r. ReadOut (a .args .books .now) (a .args .withheld .now) (a .args .body .now) (a .args .id) (amountOf (a .args .position)) (amountOf (a .args .length)) (asked (a .args .exchange)) (a .args .out .now) r _)
     (c .before .before .before .before .read .result)
     _
     _
-    (read-border _ _ _ _ (a .args .id) (a .args .position) (a .args .length) _ _ _ _ e₁ e₂ (c .before .before .before .before .read .ensures))
+    (read-border _ _ _ _ _ (a .args .id) (a .args .position) (a .args .length) _ _ _ _ e₁ e₂ (c .before .before .before .before .read .ensures))
     (c .hand-back .ensures)
 
 pub isc-read-spec : {M : Type 1} → statement M

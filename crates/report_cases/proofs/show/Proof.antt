@@ -7,8 +7,9 @@ pub show-spec : {M : Type 1} → statement M
 show-spec =
     tie.close
     (tie.spec
+    (λ c. search needs)
     (λ c κs. search needs)
-    (λ c. report-fits _ _ (c .before .report .ensures))
-    (λ c. report-count _ _ (c .before .before .report .ensures))
+    (λ c. report-fits _ _ _ (c .before .report .ensures))
+    (λ c. report-count _ _ _ (c .before .before .report .ensures))
     (λ c κs. search needs)
     (λ c. search needs))

@@ -2,7 +2,7 @@ use native.Mathlib.Omega.{arith}
 use Prim.Native.Nat.{ℕ, _+_, _-_, _*_, _≤_, _<_}
 use Rattle.examination.proofs.ChildLaws.{some-stop, some-end, some-more}
 use Rattle.tables.specs.Indexes.{UsedAt}
-use Rattle.examination.proofs.SlotLaws.{slot-in}
+use Rattle.marks.proofs.MarkLaws.{slot-in}
 use borrow.Author.Needs.{needs}
 use Rattle.examination.proofs.children.some_used.Statement.{statement}
 use Rattle.examination.proofs.children.some_used.Tie as tie

@@ -3,7 +3,7 @@ use mathlib.Core.Path.{_≡_, sym, _∙_}
 use Prim.Native.Nat.{_≤_, _-_}
 use Rattle.field.specs.Bits.{bitAt}
 use Rattle.tables.specs.Each.{Each}
-use Rattle.examination.specs.Marks.{markAt}
+use Rattle.marks.specs.Marks.{markAt}
 use Rattle.examination.proofs.LimitLaws.{unequal-here, unequal-limit, equal-all}
 use borrow.Author.Count.{below-more}
 use borrow.Author.Needs.{needs}

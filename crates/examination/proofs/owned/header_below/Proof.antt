@@ -1,5 +1,5 @@
 use Rattle.examination.proofs.LimitLaws.{header-past, header-lowers}
-use Rattle.examination.proofs.MarkLaws.{header-room}
+use Rattle.marks.proofs.MarkLaws.{header-room}
 use borrow.Author.Needs.{needs}
 use Rattle.examination.proofs.owned.header_below.Statement.{statement}
 use Rattle.examination.proofs.owned.header_below.Tie as tie

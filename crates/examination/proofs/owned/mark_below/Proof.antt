@@ -1,8 +1,8 @@
 use mathlib.Core.Bool.{true}
 use Prim.Native.Nat.{_≤_, _-_}
 use Rattle.tables.specs.Views.{cov}
-use Rattle.examination.specs.Marks.{MarksAdded}
-use Rattle.examination.proofs.MarkLaws.{run-none, run-more}
+use Rattle.marks.specs.Marks.{MarksAdded}
+use Rattle.marks.proofs.MarkLaws.{run-none, run-more}
 use Rattle.examination.proofs.LimitLaws.{run-far, run-twice, run-full}
 use borrow.Author.Needs.{needs}
 use Rattle.examination.proofs.owned.mark_below.Statement.{statement}

@@ -1,5 +1,5 @@
 use Rattle.field.specs.Bits.{bitOf}
-use Rattle.examination.specs.Marks.{markAt}
+use Rattle.marks.specs.Marks.{markAt}
 use borrow.Author.Needs.{needs}
 use Rattle.examination.proofs.owned.mark_of.Statement.{statement}
 use Rattle.examination.proofs.owned.mark_of.Tie as tie

@@ -1,9 +1,9 @@
 use native.Mathlib.Omega.{arith}
 use Prim.Native.Nat.{_≤_, _-_}
 use Rattle.tables.specs.Views.{viewOf}
-use Rattle.examination.specs.Marks.{overTables}
+use Rattle.marks.specs.Marks.{overTables}
 use Rattle.examination.specs.Limits.{Lowers}
-use Rattle.examination.proofs.MarkLaws.{table-fits}
+use Rattle.marks.proofs.MarkLaws.{table-fits}
 use Rattle.examination.proofs.LimitLaws.{all-none, all-more, all-end}
 use borrow.Author.Needs.{needs}
 use Rattle.examination.proofs.owned.mark_tables.Statement.{statement}

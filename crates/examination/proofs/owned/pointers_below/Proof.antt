@@ -1,9 +1,8 @@
 use Prim.Native.Nat.{_≤_, _-_}
-use Rattle.examination.specs.Marks.{overFirst}
+use Rattle.marks.specs.Marks.{overFirst}
 use Rattle.examination.specs.Limits.{Lowers}
 use Rattle.examination.proofs.LimitLaws.{pointers-none, pointers-more, pointers-end}
-use Rattle.examination.proofs.MarkLaws.{pointer-room}
-use Rattle.examination.proofs.SlotLaws.{slot-in}
+use Rattle.marks.proofs.MarkLaws.{slot-in, pointer-room}
 use borrow.Author.Needs.{needs}
 use Rattle.examination.proofs.owned.pointers_below.Statement.{statement}
 use Rattle.examination.proofs.owned.pointers_below.Tie as tie

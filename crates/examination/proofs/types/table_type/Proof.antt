@@ -1,6 +1,6 @@
 use Prim.Native.Nat.{ℕ, _+_, _*_, _≤_, _<_, _-_}
 use native.Mathlib.Omega.{arith}
-use Rattle.examination.proofs.SlotLaws.{slot-in}
+use Rattle.marks.proofs.MarkLaws.{slot-in}
 use Rattle.examination.specs.Surveys.{RunType}
 use Rattle.tables.specs.Views.{viewOf}
 use Rattle.field.specs.Numbers.{u16At, u32At}

@@ -10,7 +10,7 @@ proper : (c : tie.Start) → let a = c .args in (2 ≤ a .k .zone .0) × (a .k .
 proper c =
     let a = c .args in
     let q = c .pre .1 .1 .1 in
-    head-proper (a .p) (a .b .now) (c .pre .0) (c .pre .1 .0) (a .f .0) (c .pre .1 .1 .0) (a .n) (q .0 .0) (q .0 .1) (a .k) (q .1 .0) (q .1 .1)
+    head-proper (a .p) (a .b .now) (c .pre .0) (c .pre .1 .0 .1) (a .f .0) (c .pre .1 .1 .0) (a .n) (q .0 .0) (q .0 .1) (a .k) (q .1 .0) (q .1 .1)
 
 put-run-requires : tie.Need-put-run-requires
 put-run-requires c κs = (search needs, proper (c .before .before .before .before .before))
@@ -30,7 +30,7 @@ free-run-requires c κs =
     let a = s .args in
     let q = s .pre .1 .1 .1 in (
       search needs,
-      head-countable (a .p) (a .b .now) (s .pre .0) (s .pre .1 .0) (a .f .0) (s .pre .1 .1 .0) (a .n) (q .0 .0) (q .0 .1) (a .k) (q .1 .0) (q .1 .1)
+      head-countable (a .p) (a .b .now) (s .pre .0) (s .pre .1 .0 .1) (a .f .0) (s .pre .1 .1 .0) (a .n) (q .0 .0) (q .0 .1) (a .k) (q .1 .0) (q .1 .1)
           _ _ _ (r .run-start .result) (o .pointer-at .result) (o .before .table .ensures .0) (o .pointer-at .ensures .0) (x .put-run .ensures) (r .run-start .ensures) (c .before .before .before .put-pointer .ensures),
     )
 
@@ -43,7 +43,7 @@ returns c =
     let s = o .before .before .before .before in
     let a = s .args in
     let q = s .pre .1 .1 .1 in
-    head-done (a .p) (a .b .now) (s .pre .0) (s .pre .1 .0) (a .f .0) (s .pre .1 .1 .0) (a .n) (q .0 .0) (q .0 .1) (a .k) (q .1 .0) (q .1 .1)
+    head-done (a .p) (a .b .now) (s .pre .0) (s .pre .1 .0 .1) (a .f .0) (s .pre .1 .1 .0) (a .n) (q .0 .0) (q .0 .1) (a .k) (q .1 .0) (q .1 .1)
     _ _ _ (r .run-start .result) (o .pointer-at .result) (o .before .table .ensures .0) (o .pointer-at .ensures .0) (x .put-run .ensures) (r .run-start .ensures) (y .put-pointer .ensures)
     _ (c .before .before .free-run .ensures)
 

@@ -10,7 +10,7 @@ put-freed-requires c κs =
     let s = l .before .before .before .before .before .before in
     let n = t .free-tables .ensures in
     let counts =
-    file-counts (s .args .p) (s .args .b .now) (s .pre .0) (s .pre .1 .0) (s .args .f .0) (s .pre .1 .1 .0) _ _ _ _ _ (l .before .before .first-free .ensures)
+    file-counts (s .args .p) (s .args .b .now) (s .pre .0) (s .pre .1 .0 .1) (s .args .f .0) (s .pre .1 .1 .0) _ _ _ _ _ (l .before .before .first-free .ensures)
     (l .last-table .ensures .0) (n .0) (n .1) (n .2) (c .before .before .before .put-link .ensures) (s .pre .1 .1 .1 .0) in
     (search needs, (counts, search needs))
 

@@ -19,7 +19,7 @@ abbrev μ-loop : tie.MeasureT-loop
 here : (c : tie.In-loop Inv-loop μ-loop) → let a = c .before .before .before .before .before .before .args in OnSector (viewOf (a .p) (a .b .now)) (c .before .loop .c)
 here c =
     let s = c .before .before .before .before .before .before in
-    moving-here _ _ (s .pre .0) (s .pre .1 .0) (s .args .f .0) _ _ _ _ (s .pre .1 .1) _ _ _ (c .before .before .seek .ensures) _ _ _ (c .before .loop .inv) (c .loop-test .taken)
+    moving-here _ _ (s .pre .0) (s .pre .1 .0 .1) (s .args .f .0) _ _ _ _ (s .pre .1 .1) _ _ _ (c .before .before .seek .ensures) _ _ _ (c .before .loop .inv) (c .loop-test .taken)
 
 seek-requires : tie.Need-seek-requires Inv-loop μ-loop
 seek-requires c κs = let s = c .before .before .before in (s .pre .0, (s .pre .1 .0, (s .pre .1 .1 .parent, s .pre .1 .1 .some)))

@@ -14,7 +14,7 @@ pointer-of-requires : tie.Need-pointer-of-requires Inv-loop μ-loop
 pointer-of-requires c κs =
     let a = c .before .args in
     let q = c .before .pre in
-    (search needs, seek-begin (a .p) (a .b .now) (a .f .0) (a .k) (q .0) (q .1 .0) (q .1 .1 .0) (q .1 .1 .1))
+    (search needs, seek-begin (a .p) (a .b .now) (a .f .0) (a .k) (q .0) (q .1 .0 .1) (q .1 .1 .0) (q .1 .1 .1))
 
 pub seek-spec : {M : Type 1} → statement M
 seek-spec =

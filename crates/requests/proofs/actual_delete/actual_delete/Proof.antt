@@ -7,12 +7,12 @@ use Rattle.requests.proofs.actual_delete.actual_delete.Tie as tie
 mark-header-requires : tie.Need-mark-header-requires
 mark-header-requires c κs =
     let p = c .before .before in
-    recover-marks _ _ _ _ _ (p .before .before .before .recover-number .ensures) (p .before .before .if1 .left) _ (p .read-places .ensures)
+    recover-marks _ _ _ _ _ _ (p .before .before .before .recover-number .ensures) (p .before .before .if1 .left) _ (p .read-places .ensures)
 
 release-file-requires : tie.Need-release-file-requires
 release-file-requires c κs =
     let p = c .before .before .before .before .before .before in
-    delete-asks _ _ _ _ _ (p .before .before .before .recover-number .ensures) (p .before .before .if1 .left) _ (p .read-places .ensures)
+    delete-asks _ _ _ _ _ _ (p .before .before .before .recover-number .ensures) (p .before .before .if1 .left) _ (p .read-places .ensures)
 
 pub actual-delete-spec : {M : Type 1} → statement M
 actual-delete-spec =

@@ -6,7 +6,7 @@ use Rattle.requests.proofs.create_fixed.create_fixed.Statement.{stateme
 use Rattle.requests.proofs.create_fixed.create_fixed.Tie as tie
 
 counts-for-requires : tie.Need-counts-for-requires
-counts-for-requires c κs = fixed-counted _ _ _ _ _ _ (c .before .before .before .fixed-allowed .result) (c .before .before .before .fixed-allowed .ensures) _ (c .before .before .argument-number .ensures) (c .before .if1 .left)
+counts-for-requires c κs = fixed-counted _ _ _ _ _ _ _ (c .before .before .before .fixed-allowed .result) (c .before .before .before .fixed-allowed .ensures) _ (c .before .before .argument-number .ensures) (c .before .if1 .left)
 
 pub create-fixed-spec : {M : Type 1} → statement M
 create-fixed-spec =

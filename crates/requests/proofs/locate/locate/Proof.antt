@@ -4,7 +4,7 @@ use Rattle.requests.proofs.locate.locate.Statement.{statement}
 use Rattle.requests.proofs.locate.locate.Tie as tie
 
 kth-sector-requires : tie.Need-kth-sector-requires
-kth-sector-requires c κs = locate-asks _ _ _ _ (c .before .before .locate-number .ensures) (c .before .if1 .left) _ (c .read-places .ensures)
+kth-sector-requires c κs = locate-asks _ _ _ _ _ (c .before .before .locate-number .ensures) (c .before .if1 .left) _ (c .read-places .ensures)
 
 pub locate-spec : {M : Type 1} → statement M
 locate-spec =

@@ -9,7 +9,7 @@ create-file-requires : tie.Need-create-file-requires
 create-file-requires c κs =
     let a = c .before .before .before .before .before .before .before .before .before .before in
     let g = good-at _ _ (a .pre .0) (c .before .before .before .before .before .read-places .ensures) in
-    (none-provides _ _ _ (a .args .counts) _ g (search needs) (c .before .before .before .before .no-pointer .ensures) (c .before .before .room-number .ensures) (c .before .if1 .left), file-fits _ _ _ (a .args .variable) _ (a .pre .1 .1) (a .pre .1 .0) refl)
+    ((g .0, none-provides _ _ _ (a .args .counts) _ (g .1) (search needs) (c .before .before .before .before .no-pointer .ensures) (c .before .before .room-number .ensures) (c .before .if1 .left)), file-fits _ _ _ (a .args .variable) _ (a .pre .1 .1) (a .pre .1 .0) refl)
 
 pub make-file-spec : {M : Type 1} → statement M
 make-file-spec =

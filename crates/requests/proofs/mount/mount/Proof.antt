@@ -4,7 +4,7 @@ use Rattle.requests.proofs.mount.mount.Statement.{statement}
 use Rattle.requests.proofs.mount.mount.Tie as tie
 
 put-flag-requires : tie.Need-put-flag-requires
-put-flag-requires c κs = (mount-ready (c .before .before .before .before .before .args .b .now) (c .before .before .mount-number .result) (c .before .before .mount-number .ensures) (search needs), search needs)
+put-flag-requires c κs = (mount-ready (c .before .before .before .before .before .before .args .b .now) (c .before .before .before .before .before .before .args .withheld .now) (c .before .before .mount-number .result) (c .before .before .mount-number .ensures) (search needs), search needs)
 
 pub mount-spec : {M : Type 1} → statement M
 mount-spec =

@@ -8,7 +8,7 @@ use Rattle.requests.proofs.place_header.place_header_number.Tie as tie
 header-place-requires : tie.Need-header-place-requires
 header-place-requires c κs =
     let p = c .before .before .before in
-    (lent-good-at _ _ _ _ (p .before .before .lent-number .ensures) (p .before .if1 .left) _ (p .read-places .ensures) .layout, search needs)
+    (lent-good-at _ _ _ _ _ (p .before .before .lent-number .ensures) (p .before .if1 .left) _ (p .read-places .ensures) .1 .layout, search needs)
 
 pub place-header-number-spec : {M : Type 1} → statement M
 place-header-number-spec =

@@ -6,7 +6,7 @@ use Rattle.requests.proofs.place_header.put_headed.Tie as tie
 head-file-requires : tie.Need-head-file-requires
 head-file-requires c κs =
     let q = c .before .before .before .before .before .before .pre in
-    (q .0 .layout, (q .0 .lawful, (q .1 .0, (q .1 .1 .0, q .1 .1 .1 .0))))
+    (q .0 .1 .layout, ((q .0 .0, q .0 .1 .lawful), (q .1 .0, (q .1 .1 .0, q .1 .1 .1 .0))))
 
 pub put-headed-spec : {M : Type 1} → statement M
 put-headed-spec =

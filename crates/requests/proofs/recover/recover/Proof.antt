@@ -6,12 +6,12 @@ use Rattle.requests.proofs.recover.recover.Tie as tie
 mark-header-requires : tie.Need-mark-header-requires
 mark-header-requires c κs =
     let p = c .before .before in
-    recover-marks _ _ _ _ _ (p .before .before .before .recover-number .ensures) (p .before .before .if1 .left) _ (p .read-places .ensures)
+    recover-marks _ _ _ _ _ _ (p .before .before .before .recover-number .ensures) (p .before .before .if1 .left) _ (p .read-places .ensures)
 
 restore-requires : tie.Need-restore-requires
 restore-requires c κs =
     let p = c .before .before .before .before .before .before in
-    recover-asks _ _ _ _ _ (p .before .before .before .recover-number .ensures) (p .before .before .if1 .left) _ (p .read-places .ensures)
+    recover-asks _ _ _ _ _ _ (p .before .before .before .recover-number .ensures) (p .before .before .if1 .left) _ (p .read-places .ensures)
 
 pub recover-spec : {M : Type 1} → statement M
 recover-spec =

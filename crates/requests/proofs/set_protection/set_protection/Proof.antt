@@ -4,7 +4,7 @@ use Rattle.requests.proofs.set_protection.set_protection.Statement.{sta
 use Rattle.requests.proofs.set_protection.set_protection.Tie as tie
 
 protect-requires : tie.Need-protect-requires
-protect-requires c κs = protect-asks _ _ _ _ _ (c .before .before .before .before .protect-number .ensures) (c .before .before .before .if1 .left) _ (c .before .read-places .ensures)
+protect-requires c κs = protect-asks _ _ _ _ _ _ (c .before .before .before .before .protect-number .ensures) (c .before .before .before .if1 .left) _ (c .before .read-places .ensures)
 
 pub set-protection-spec : {M : Type 1} → statement M
 set-protection-spec =

@@ -5,10 +5,10 @@ use Rattle.requests.proofs.show.show.Statement.{statement}
 use Rattle.requests.proofs.show.show.Tie as tie
 
 add-end : tie.Need-add-end
-add-end c = omega (arith, shown-inside _ _ _ _ _ (c .before .show-part .ensures))
+add-end c = omega (arith, shown-inside _ _ _ _ _ _ (c .before .show-part .ensures))
 
 part-result-end : tie.Need-part-result-end
-part-result-end c = shown-inside _ _ _ _ _ (c .before .show-part .ensures)
+part-result-end c = shown-inside _ _ _ _ _ _ (c .before .show-part .ensures)
 
 pub show-spec : {M : Type 1} → statement M
 show-spec =

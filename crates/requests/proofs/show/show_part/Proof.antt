@@ -4,7 +4,7 @@ use Rattle.requests.proofs.show.show_part.Statement.{statement}
 use Rattle.requests.proofs.show.show_part.Tie as tie
 
 kth-sector-requires : tie.Need-kth-sector-requires
-kth-sector-requires c κs = show-asks _ _ _ _ _ (c .before .before .show-number .ensures) (c .before .if1 .left) _ (c .read-places .ensures)
+kth-sector-requires c κs = show-asks _ _ _ _ _ _ (c .before .before .show-number .ensures) (c .before .if1 .left) _ (c .read-places .ensures)
 
 pub show-part-spec : {M : Type 1} → statement M
 show-part-spec =

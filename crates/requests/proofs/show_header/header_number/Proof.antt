@@ -10,7 +10,7 @@ use Rattle.requests.proofs.show_header.header_number.Tie as tie
 table-requires : tie.Need-table-requires
 table-requires c κs =
     let n = c .before .before .before .before .before in
-    header-table _ _ _ (c .before .usable-number .ensures) (c .if3 .left) _ (n .before .use-number .ensures) (n .if1 .left) _ (c .before .before .read-places .ensures)
+    header-table _ _ _ _ (c .before .usable-number .ensures) (c .if3 .left) _ (n .before .use-number .ensures) (n .if1 .left) _ (c .before .before .read-places .ensures)
 
 returns : tie.Need-returns
 unfolding showHeaderTests

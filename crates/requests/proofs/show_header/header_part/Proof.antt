@@ -5,7 +5,7 @@ use Rattle.requests.proofs.show_header.header_part.Statement.{statement
 use Rattle.requests.proofs.show_header.header_part.Tie as tie
 
 table-requires : tie.Need-table-requires
-table-requires c κs = header-asks _ _ _ _ (c .before .before .header-number .ensures) (c .before .if1 .left) _ (c .read-places .ensures)
+table-requires c κs = header-asks _ _ _ _ _ (c .before .before .header-number .ensures) (c .before .if1 .left) _ (c .read-places .ensures)
 
 pub header-part-spec : {M : Type 1} → statement M
 header-part-spec =

@@ -9,10 +9,10 @@ put-written-requires c κs =
     let n = c .before .before in
     let j = n .before .before .before in
     let h = j .before .write-number .ensures in (
-      write-good _ _ _ _ _ _ _ _ h (j .if1 .left),
+      write-good _ _ _ _ _ _ _ _ _ h (j .if1 .left),
       (
-        write-parent _ _ _ _ _ _ _ _ h (j .if1 .left),
-        write-writes _ _ _ _ _ _ _ _ h (j .if1 .left)
+        write-parent _ _ _ _ _ _ _ _ _ h (j .if1 .left),
+        write-writes _ _ _ _ _ _ _ _ _ h (j .if1 .left)
             _ _ _ (n .before .before .number-of .ensures) (n .before .number-of2 .ensures) (n .whole-sectors .ensures .0) (c .before .if2 .left),
       ),
     )
@@ -22,7 +22,7 @@ read-places-requires c κs =
     let w = c .before .before .before in
     let n = w .before .before .before in
     let j = n .before .before .before in
-    wrote-room _ _ _ _ _ _ _ _ (j .before .write-number .ensures) (j .if1 .left)
+    wrote-room _ _ _ _ _ _ _ _ _ (j .before .write-number .ensures) (j .if1 .left)
     _ _ _ (n .before .before .number-of .ensures) (n .before .number-of2 .ensures) (n .whole-sectors .ensures .0) _ (w .put-written .ensures)
 
 write-sectors-requires : tie.Need-write-sectors-requires
@@ -30,7 +30,7 @@ write-sectors-requires c κs =
     let w = c .before .before .before .before .before in
     let n = w .before .before .before in
     let j = n .before .before .before in
-    wrote-asks _ _ _ _ _ _ _ _ (j .before .write-number .ensures) (j .if1 .left)
+    wrote-asks _ _ _ _ _ _ _ _ _ (j .before .write-number .ensures) (j .if1 .left)
     _ _ _ (n .before .before .number-of .ensures) (n .before .number-of2 .ensures) (n .whole-sectors .ensures .0) _ (w .put-written .ensures)
     _ (c .before .read-places .ensures) (w .before .before .if2 .left)
 

@@ -1,8 +1,0 @@
-use native.Mathlib.Omega.{arith}
-use Rattle.examination.proofs.PieceLaws.{ones-shift}
-use borrow.Author.Needs.{needs}
-use Rattle.examination.proofs.marks.behind_low.Statement.{statement}
-use Rattle.examination.proofs.marks.behind_low.Tie as tie
-
-pub behind-low-spec : {M : Type 1} → statement M
-behind-low-spec = tie.close (tie.spec (λ c. search needs) (λ c. ones-shift 64 (c .args .k) (omega arith)))

@@ -66,9 +66,9 @@ module _ (b : List ℕ) (p : Places) (name : List ℕ) (size flag kind : ℕ) (d
     create-done h =
         let supply = enough-supply (viewOf p b) (h .lawful .r2) (h .lawful .r3) (countAt counts) (h .room) in
         let room : Gate (roomTests p b noPointer counts) 0 = gate-passes 12 _ _ 0 supply (gate-passes 13 _ [] 0 (h .tables) gate-end) in
-        made _ _ (make-done b [] counts new p noPointer 0 (record { 0 = firstFreeOf b }) _ (good .places) refl room refl refl refl)
+        made _ _ (make-done b counts new p noPointer 0 (record { 0 = firstFreeOf b }) _ (good .places) refl room refl refl refl)
 
     -- 12
     pub create-no-room : (Supply (viewOf p b) (countAt counts) → ⊥) → OneResult Promise (refused 12) b
     unfolding roomTests
-    create-no-room h = made _ _ (make-refused b [] counts new p noPointer 12 (good .places) refl (gate-fails 12 _ _ (omega arith) h) (omega arith))
+    create-no-room h = made _ _ (make-refused b counts new p noPointer 12 (good .places) refl (gate-fails 12 _ _ (omega arith) h) (omega arith))

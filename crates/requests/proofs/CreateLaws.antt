@@ -53,7 +53,7 @@ none-small l e = rw e (omega arith, omega arith)
 pub none-provides : (b : List ℕ) (p : Places) (l : Tail) (counts : List ℕ) (n : ℕ) {extra : ℕ → ℕ} → GoodWith extra b p → length counts ≡ 6 → l ≡ noPointer → Gate (roomTests p b l counts) n → n ≡ 0 → ProvidedWith extra p b noPointer counts
 none-provides b p l counts n g six e h z = rw e at (room-provides b p l counts n g six h z)
 
-module _ (b withheld : List ℕ) (counts : List ℕ) (new : New) where
+module _ (b : List ℕ) (counts : List ℕ) (new : New) where
   pub make-refused : (p : Places) (l : Tail) (n : ℕ) → p ≡ placesOf b → l ≡ noPointer → Gate (roomTests p b l counts) n → n ≢ 0 → Creates [] b counts new (Refused n) b
   make-refused p l zero e t g h = absurd (h refl)
   make-refused p l (suc k) e t g h = record { number = rw (e, t) at g; answer = refl; books = refl }
@@ -66,6 +66,7 @@ module _ (b withheld : List ℕ) (counts : List ℕ) (new : New) where
     books = h ∙ ap (λ (q : Places). created q b new counts) e;
   }
 
+module _ (b withheld : List ℕ) (counts : List ℕ) (new : New) where
   module _ (P : Type 0) (a : Bool) (s : Says a P) (n : ℕ) (g : Gate (argumentTests b withheld (a ≡ true)) n) where
     pub create-stops : n ≢ 0 → Creates (argumentTests b withheld P) b counts new (Refused n) b
     create-stops h = go n g h

@@ -33,16 +33,10 @@ use Rattle.tables.proofs.RoomLaws.{open-clear}
 -- ---- a block that begins at sector s
 
 module _ (v : View) (s : ℕ) (h : StartsBlock v s) where
-  abbrev size : ℕ
-  size = blockAt v s
-
   start-block : Block (blockAt v s)
   start-block = data-block (v .zone (zoneOf s) .ztype) (h .typed)
 
-  -- how many blocks of its zone come before it
-  abbrev before : ℕ
-  before = s % 1024 / blockAt v s
-
+  -- so many blocks of its zone come before it
   start-at : s % 1024 / blockAt v s * blockAt v s ≡ s % 1024
   start-at = omega (arith, div-add-mod' (s % 1024) (blockAt v s), h .start)
 
@@ -56,22 +50,17 @@ module _ (v : View) (s : ℕ) (h : StartsBlock v s) where
   pub start-zone : (n : ℕ) → s ≤ n → n < s + blockAt v s → zoneOf n ≡ zoneOf s
   start-zone n lo hi = omega (arith, start-within)
 
--- of two the lower one ends before the other begins
+-- of two the lower one ends before the other begins: in one zone they are some blocks of one size apart
 pub starts-apart : (v : View) (s t : ℕ) → StartsBlock v s → StartsBlock v t → s < t → s + blockAt v s ≤ t
 starts-apart v s t h k l = elim (ℕ-discrete (s / 1024) (t / 1024)) [
   | no ne ↦ omega (arith, start-within v s h)
-  | yes e ↦ (let same : blockAt v t ≡ blockAt v s = ap (λ (z : ℕ). blockOf (v .zone (z + 1) .ztype)) (sym e) in
-      let at : t % 1024 / blockAt v s * blockAt v s ≡ t % 1024 = rw same at (start-at v t k) in
-      next same at)
+  | yes e ↦ (let same : blockAt v t ≡ blockAt v s = ap (λ (z : ℕ). blockOf (v .zone (z + 1) .ztype)) (sym e) in in-zone e (rw same at (start-at v t k)))
 ]
   where
-    next : blockAt v t ≡ blockAt v s → t % 1024 / blockAt v s * blockAt v s ≡ t % 1024 → s + blockAt v s ≤ t
-    next same at = elim (decLt (s % 1024 / blockAt v s) (t % 1024 / blockAt v s)) [
-      | yes lt ↦ omega (arith, start-at v s h, start-within v s h, block-end (s % 1024 / blockAt v s) (t % 1024 / blockAt v s) (blockAt v s) lt)
-      | no nl ↦ elim (ℕ-discrete (s / 1024) (t / 1024)) [
-        | no ne ↦ omega (arith, start-within v s h)
-        | yes e ↦ absurd (omega (arith, start-at v s h, mul-le-mul-right {m = t % 1024 / blockAt v s} {n = s % 1024 / blockAt v s} (blockAt v s) (omega arith)))
-      ]
+    in-zone : s / 1024 ≡ t / 1024 → t % 1024 / blockAt v s * blockAt v s ≡ t % 1024 → s + blockAt v s ≤ t
+    in-zone e at = elim (decLt (s % 1024 / blockAt v s) (t % 1024 / blockAt v s)) [
+      | yes lt ↦ omega (arith, start-at v s h, block-end (s % 1024 / blockAt v s) (t % 1024 / blockAt v s) (blockAt v s) lt)
+      | no nl ↦ absurd (omega (arith, start-at v s h, mul-le-mul-right {m = t % 1024 / blockAt v s} {n = s % 1024 / blockAt v s} (blockAt v s) (omega arith)))
     ]
 
 -- ---- the list

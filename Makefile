@@ -5,6 +5,7 @@
 #   make test             the tests of the C border, of the examples, of the card tool and of the program broken
 #   make compare          the library beside the model of tests/model, byte by byte
 #   make bench            what each request costs
+#   make figures          what two files come to that grow in turn: pointers, and the time of a grow
 #   make install PREFIX=  library, header, isc.pc and the card tool
 #   make clean            removes what this file makes (rt's own proofs stay)
 #
@@ -29,7 +30,7 @@ else
 endif
 
 # The changes of the library that the model is to know too: its cargo features
-CHANGES = w6,w3,w1,w7
+CHANGES = w6,w3,w1,w7,w4
 # Of make compare: the seed, the number of requests and the most seconds (0: no limit)
 SEED = 1
 COUNT = 200000
@@ -49,11 +50,12 @@ RATTLE := $(wildcard crates.txt crates/*/src/*.rt crates/*/src/*/*.rt) \
 TOOL := $(wildcard tools/*.c)
 BORDER := $(filter-out tests/c/header.c,$(wildcard tests/c/*.c))
 EXAMPLES := $(patsubst examples/%.c,$(BIN)/%,$(wildcard examples/*.c))
+FIGURES := $(patsubst tests/figures/%.c,$(BIN)/%,$(wildcard tests/figures/*.c))
 
 # Says which package has a command that is not there: $(call needs,command,package)
 needs = @command -v $(1) >/dev/null || { echo "make: $(1) is missing: it is in Debian's package $(2)" >&2; exit 1; }
 
-.PHONY: all card test compare bench install clean tools-c tools-cxx tools-run tools-model
+.PHONY: all card test compare bench figures install clean tools-c tools-cxx tools-run tools-model
 
 all: $(LIB)
 
@@ -95,6 +97,10 @@ $(BIN)/%: examples/%.c include/isc.h $(LIB) | tools-c
 	@mkdir -p $(BIN)
 	$(CC) $(C99) $(LDFLAGS) $< $(LIB) -o $@
 
+$(BIN)/%: tests/figures/%.c include/isc.h $(LIB) | tools-c
+	@mkdir -p $(BIN)
+	$(CC) $(C99) $(LDFLAGS) $< $(LIB) -o $@
+
 # The program that says which rule is broken, proved and built by rt
 $(BIN)/broken: $(RATTLE)
 	$(call needs,rt,of no name: it is the Rattle toolchain)
@@ -118,6 +124,9 @@ bench: tools-model $(LIB)
 	$(MODEL) > target/model/commands
 	env $$($(call command_of,perf)) $(FIGURE)
 
+figures: tools-run $(FIGURES)
+	for program in $(FIGURES); do $(EMULATOR) $$program || exit 1; done
+
 install: $(LIB) $(BIN)/card
 	install -d $(DESTDIR)$(PREFIX)/lib/pkgconfig $(DESTDIR)$(PREFIX)/include $(DESTDIR)$(PREFIX)/bin
 	install -m 644 $(LIB) $(DESTDIR)$(PREFIX)/lib/libisc.a
@@ -126,4 +135,4 @@ install: $(LIB) $(BIN)/card
 	sed -e 's|@PREFIX@|$(PREFIX)|' -e 's|@VERSION@|$(VERSION)|' isc.pc.in > $(DESTDIR)$(PREFIX)/lib/pkgconfig/isc.pc
 
 clean:
-	rm -rf $(LIB) $(BIN)/card $(BIN)/card_cut $(BIN)/border $(EXAMPLES) target/model
+	rm -rf $(LIB) $(BIN)/card $(BIN)/card_cut $(BIN)/border $(EXAMPLES) $(FIGURES) target/model

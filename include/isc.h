@@ -50,7 +50,7 @@ extern "C" {
 
 /* The version of the library. The minor number goes up with each change that docs/changes/ has a note of. */
 #define ISC_VERSION_MAJOR 1
-#define ISC_VERSION_MINOR 4
+#define ISC_VERSION_MINOR 5
 #define ISC_VERSION (ISC_VERSION_MAJOR * 1000 + ISC_VERSION_MINOR)
 
 /* What a request answers. isc_number_text gives the words. */
@@ -248,7 +248,8 @@ uint32_t isc_create_variable(uint8_t *books, size_t books_len, const uint32_t *w
                              uint32_t *id);
 
 /* Makes an active file of variable size longer, with the fewest blocks; changes nothing if it is as long
-   already. Numbers: books, 7, 8, 9, 10 (write-protected), 11, 12, 13.
+   already. The block behind the file's end is taken where it can be had, so that the file stays together.
+   Numbers: books, 7, 8, 9, 10 (write-protected), 11, 12, 13.
    length   the wanted byte length, 0 or more
    date     becomes the change date and the latest update, if the file gets longer */
 uint32_t isc_grow(uint8_t *books, size_t books_len, const uint32_t *withheld, size_t withheld_len,

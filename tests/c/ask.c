@@ -66,6 +66,29 @@ struct request ask(enum call call, const struct volume *v) {
     return r;
 }
 
+/* "Each request that changes a file takes a date, stored as its change date (in a create as creation date too) and as
+   latest update." */
+struct file *made(struct volume *then, uint32_t id, const char *name, uint32_t length, uint32_t attribute) {
+    struct file *f = put(then, id, name, length, attribute);
+    f->created = f->changed = then->updated = DAY2;
+    return f;
+}
+
+void grown(struct volume *then, uint32_t file, uint32_t length) {
+    then->files[file].length = length;
+    then->files[file].changed = then->updated = DAY2;
+}
+
+/* "Each written sector is filled where it lies in the body", and no other byte of it. */
+void spill(const struct file *f, uint32_t position, uint32_t bytes, int exchange) {
+    uint32_t i, j, at = 0, b;
+    memcpy(then_body, now_body, BODY_MOST);
+    for (i = 0; i < f->runs_count; i++)
+        for (j = 0; j < f->runs[i].count; j++, at += 1024)
+            for (b = 0; b < 1024 && at >= position && at < position + bytes; b++)
+                then_body[1024 * (f->runs[i].start + j - 1024) + b] = ink[at - position + (exchange ? b ^ 1U : b)];
+}
+
 /* The report and the text of the broken rule are done where the text is long enough, and say the refusal in their
    lines. */
 static int says(const struct request *r) {

@@ -70,6 +70,7 @@ void withhold(struct volume *v, uint32_t start);
 struct volume desk(int child);
 struct volume curve(uint32_t attribute);
 struct volume rack(void);
+uint32_t block_of(uint32_t type); /* its sectors */
 void paper_books(const struct volume *v, uint8_t *books);
 void put_number(uint8_t *at, unsigned bytes, uint32_t value);
 uint32_t get_number(const uint8_t *at, unsigned bytes);
@@ -119,10 +120,14 @@ extern uint8_t now_books[BOOKS_MOST], now_body[BODY_MOST], then_body[BODY_MOST],
 const char *call_name(enum call call);
 void expect(const struct request *r, const struct answer *a, const char *file, int line);
 
-/* ask.c: requests that are done on desk(), to be altered by the tests, and short ways to say an answer. */
+/* ask.c: requests that are done on desk(), to be altered by the tests, and short ways to say what is there afterwards
+   and an answer. */
 struct slice text(const char *words);
 struct request ask(enum call call, const struct volume *v);
 void restand(struct request *r, const struct volume *v);
+struct file *made(struct volume *then, uint32_t id, const char *name, uint32_t length, uint32_t attribute);
+void grown(struct volume *then, uint32_t file, uint32_t length);
+void spill(const struct file *f, uint32_t position, uint32_t bytes, int exchange);
 void refused_at(const struct request *r, uint32_t number, const char *file, int line);
 void done_at(const struct request *r, const struct volume *then, uint32_t value, const char *file, int line);
 void filled_at(const struct request *r, uint32_t value, const void *bytes, size_t len, const char *file, int line);
@@ -156,6 +161,7 @@ void test_write(void);
 void test_show(void);
 void test_place(void);
 void test_withheld(void);
+void test_together(void);
 void test_cards(void);
 void test_words(void);
 

@@ -1,12 +1,6 @@
 /* The paper's bench cards P1 to P11, and the three slips that must not pass. */
 #include "border.h"
 
-static struct file *made(struct volume *v, uint32_t id, uint32_t length) {
-    struct file *f = put(v, id, "NEW", length, 0);
-    f->created = f->changed = v->updated = DAY2;
-    return f;
-}
-
 static struct request create(const struct volume *v, int32_t size, int32_t flag) {
     struct request r = ask(CREATE_FIXED, v);
     r.size = size;
@@ -19,7 +13,7 @@ static struct request create(const struct volume *v, int32_t size, int32_t flag)
 static void test_counts(void) {
     struct volume v = mounted(8, 8, 5), then = v;
     struct request r = create(&v, 1773 * 1024, 0);
-    struct file *f = made(&then, 1, 1773 * 1024);
+    struct file *f = made(&then, 1, "NEW", 1773 * 1024, 0);
     uint8_t z;
     group("P1");
     for (z = 2; z <= 7; z++)
@@ -33,7 +27,7 @@ static void test_counts(void) {
     group("P2");
     v = then = mounted(5, 8, 5);
     r = create(&v, 1240 * 1024, 128 + 32 + 16);
-    f = made(&then, 1, 1240 * 1024);
+    f = made(&then, 1, "NEW", 1240 * 1024, 0);
     then.type[2] = TYPE_H;
     then.type[3] = TYPE_F;
     then.type[4] = TYPE_E;
@@ -47,13 +41,13 @@ static void test_rounding(void) {
     struct volume v = mounted(4, 8, 5), then = v;
     struct request r = create(&v, 1, 128 + 16);
     group("P3");
-    run(made(&then, 1, 1), 1024, 16);
+    run(made(&then, 1, "NEW", 1, 0), 1024, 16);
     then.type[2] = TYPE_E;
     DONE(&r, &then, 1);
     group("P4");
     then = v;
     r = create(&v, 1048577, 128);
-    run(made(&then, 1, 1048577), 1024, 2048);
+    run(made(&then, 1, "NEW", 1048577, 0), 1024, 2048);
     then.type[2] = then.type[3] = TYPE_H;
     DONE(&r, &then, 1);
 }
@@ -61,15 +55,15 @@ static void test_rounding(void) {
 /* The volume after P5, P6 and P8. "Pointers (1024,4), (2048,1)"; "(2049,1)"; "(2050,20)". */
 static struct volume after(int files) {
     struct volume v = mounted(4, 8, 5);
-    struct file *f = made(&v, 1, 5000);
+    struct file *f = made(&v, 1, "NEW", 5000, 0);
     run(f, 1024, 4);
     run(f, 2048, 1);
     v.type[2] = TYPE_D;
     v.type[3] = TYPE_C;
     if (files > 1)
-        run(made(&v, 2, 1), 2049, 1);
+        run(made(&v, 2, "NEW", 1, 0), 2049, 1);
     if (files > 2)
-        run(made(&v, 3, 20480), 2050, 20);
+        run(made(&v, 3, "NEW", 20480, 0), 2050, 20);
     return v;
 }
 
@@ -106,13 +100,13 @@ static void test_alone(void) {
     group("P9");
     REFUSED(&r, 12);
     r.flag = 4;
-    run(made(&then, 1, 5000), 1024, 5);
+    run(made(&then, 1, "NEW", 5000, 0), 1024, 5);
     then.type[2] = TYPE_C;
     DONE(&r, &then, 1);
     group("P10");
     v = then = mounted(36, 8, 9);
     r = create(&v, 33554432, 128);
-    f = made(&then, 1, 33554432);
+    f = made(&then, 1, "NEW", 33554432, 0);
     run(f, 1024, 31744);
     run(f, 32768, 1024);
     for (z = 2; z <= 33; z++)
@@ -172,7 +166,7 @@ static void test_open(void) {
     group("slip: a wholly free D zone is given to type H");
     v.type[2] = TYPE_D;
     r = create(&v, 1048576, 128);
-    run(made(&then, 1, 1048576), 1024, 1024);
+    run(made(&then, 1, "NEW", 1048576, 0), 1024, 1024);
     then.type[2] = TYPE_H;
     DONE(&r, &then, 1);
 }
@@ -186,7 +180,7 @@ static void test_recovered(void) {
     v.files[0].attribute = 1;
     then = v;
     r = create(&v, 1, 0);
-    run(made(&then, 2, 1), 2049, 1);
+    run(made(&then, 2, "NEW", 1, 0), 2049, 1);
     DONE(&r, &then, 2);
     v = then;
     then = after(2);

@@ -2,14 +2,6 @@
 #include "border.h"
 #include <string.h>
 
-/* "Each request that changes a file takes a date, stored as its change date (in a create as creation date too) and as
-   latest update." */
-static struct file *made(struct volume *then, uint32_t id, const char *name, uint32_t length, uint32_t attribute) {
-    struct file *f = put(then, id, name, length, attribute);
-    f->created = f->changed = then->updated = DAY2;
-    return f;
-}
-
 /* Index tables come off the chain's head: 4, then 3. "Both creates take a kind: 0 plain, 1 directory, 2 system." */
 static void test_kinds(enum call call) {
     static const uint32_t weights[] = {0, 32, 64};

@@ -10,11 +10,6 @@ static struct volume one_file(uint32_t zones, uint8_t type, uint32_t length) {
     return v;
 }
 
-static void grown(struct volume *then, uint32_t file, uint32_t length) {
-    then->files[file].length = length;
-    then->files[file].changed = then->updated = DAY2;
-}
-
 /* "Add the fewest blocks of the file's type, and set the length"; "a block next after the last pointer's end joins
    it". */
 static void test_fewest(void) {

@@ -6,8 +6,8 @@
 #define SAME(name, left, right) typedef char same_##name[(left) == (right) ? 1 : -1]
 
 SAME(major, ISC_VERSION_MAJOR, 1);
-SAME(minor, ISC_VERSION_MINOR, 4);
-SAME(version, ISC_VERSION, 1004);
+SAME(minor, ISC_VERSION_MINOR, 5);
+SAME(version, ISC_VERSION, 1005);
 
 /* "Numbers a request can answer." */
 SAME(n0, ISC_DONE, 0);

@@ -18,6 +18,7 @@ static void test_all(void) {
     test_show();
     test_place();
     test_withheld();
+    test_together();
     test_cards();
 }
 

@@ -187,7 +187,7 @@ static void put_sector_1(const struct volume *v, uint8_t *at) {
 
 /* "Types 3 to 8 are C to H, with blocks of 1, 4, 16, 64, 256, 1024 sectors." "Zone type 2 (B): free field = free
    sectors." */
-static uint32_t block_of(uint32_t type) { return type == TYPE_B ? 1 : 1U << 2 * (type - TYPE_C); }
+uint32_t block_of(uint32_t type) { return type == TYPE_B ? 1 : 1U << 2 * (type - TYPE_C); }
 
 /* R3: "the free count is the number of clear blocks"; "zone z holds sectors 1024(z-1) to 1024z-1". */
 static uint32_t clear_blocks(const uint8_t *bits, uint32_t z, uint32_t type) {

@@ -33,12 +33,6 @@ static struct volume typed(uint8_t type) {
     return v;
 }
 
-static struct file *made(struct volume *then, uint32_t id, uint32_t length) {
-    struct file *f = put(then, id, "NEW", length, 0);
-    f->created = f->changed = then->updated = DAY2;
-    return f;
-}
-
 static struct request with(enum call call, const struct volume *v, const uint32_t *list, size_t len) {
     struct request r = ask(call, v);
     r.withheld = list;
@@ -328,12 +322,12 @@ static void test_creates(void) {
     struct volume v = worn(), then = worn();
     struct request r = ask(CREATE_FIXED, &v);
     r.size = 3 * 1024;
-    run(made(&then, 3, 3 * 1024), 1027, 3);
+    run(made(&then, 3, "NEW", 3 * 1024, 0), 1027, 3);
     DONE(&r, &then, 3);
     r.flag = 8;
     r.size = 252 * 4096; /* all that are free of zone 3 */
     then = worn();
-    run(made(&then, 3, 252 * 4096), 2060, 1008);
+    run(made(&then, 3, "NEW", 252 * 4096, 0), 2060, 1008);
     DONE(&r, &then, 3);
     /* With one block more the open zone 5 gives it; with zone 5 full the withheld ones do not. */
     r.size++;
@@ -351,8 +345,7 @@ static void test_creates(void) {
     REFUSED(&r, 12);
     r.cell = 1024;
     then = v;
-    made(&then, 3, 0)->attribute = 16;
-    run(&then.files[3], 1027, 1);
+    run(made(&then, 3, "NEW", 0, 16), 1027, 1);
     then.chain[0] = 0;
     DONE(&r, &then, 3);
 }
@@ -367,7 +360,7 @@ static void test_around(void) {
     then = v;
     r = ask(CREATE_FIXED, &v);
     r.size = 2 * 1024;
-    run(made(&then, 1, 2 * 1024), 1026, 1);
+    run(made(&then, 1, "NEW", 2 * 1024, 0), 1026, 1);
     run(&then.files[0], 1028, 1);
     DONE(&r, &then, 1);
     r.size = 1021 * 1024;
@@ -392,7 +385,7 @@ static void test_never_open(void) {
     }
     r.flag = 4;
     then = v;
-    run(made(&then, 1, 1), 1024, 1);
+    run(made(&then, 1, "NEW", 1, 0), 1024, 1);
     DONE(&r, &then, 1);
     r = ask(PLACE_HEADER, &then);
     REFUSED(&r, 12);
@@ -454,7 +447,7 @@ static void test_last_file(void) {
     r = ask(CREATE_FIXED, &then);
     r.flag = 128;
     then.type[3] = TYPE_H;
-    run(made(&then, 1, 1), 2048, 1024);
+    run(made(&then, 1, "NEW", 1, 0), 2048, 1024);
     DONE(&r, &then, 1);
 }
 

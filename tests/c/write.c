@@ -1,16 +1,5 @@
 /* isc_write: the body's bytes, the file's growth, and the numbers 7, 15, 8, 9, 10, 14, 12 and 13. */
 #include "border.h"
-#include <string.h>
-
-/* "Each written sector is filled where it lies in the body", and no other byte of it. */
-static void spill(const struct file *f, uint32_t position, uint32_t bytes, int exchange) {
-    uint32_t i, j, at = 0, b;
-    memcpy(then_body, now_body, BODY_MOST);
-    for (i = 0; i < f->runs_count; i++)
-        for (j = 0; j < f->runs[i].count; j++, at += 1024)
-            for (b = 0; b < 1024 && at >= position && at < position + bytes; b++)
-                then_body[1024 * (f->runs[i].start + j - 1024) + b] = ink[at - position + (exchange ? b ^ 1U : b)];
-}
 
 static struct request write_at(const struct volume *v, uint32_t id, int32_t position, int32_t length) {
     struct request r = ask(WRITE, v);

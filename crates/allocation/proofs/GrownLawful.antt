@@ -133,7 +133,7 @@ module _ (p : Places) (b : List ℕ) (f long : ℕ) (date : List ℕ) (lay : Lay
     attribute' = u16-kept 44 new-kept (inr (omega arith)) ∙ h .attribute';
   }
 
-  length-new : tableAt p (putChange p b f long date) f ≡ new
+  pub length-new : tableAt p (putChange p b f long date) f ≡ new
   unfolding putChange
   length-new =
       let x = putChanged p b f date in

@@ -9,6 +9,7 @@ use Rattle.tables.specs.declared.places.Places.{Places}
 use Rattle.tables.specs.Blocks.{DataType}
 use Rattle.tables.specs.Places.{Layout}
 use Rattle.tables.specs.Views.{viewOf}
+use Rattle.tables.specs.Rules.R3.{R3}
 use Rattle.allocation.specs.declared.choice.Choice.{Choice}
 use Rattle.allocation.specs.declared.choice.Found.{Found}
 use Rattle.allocation.specs.Choice.{choose, inOrder, inTurn}
@@ -30,6 +31,10 @@ step-is false p f t g = plan-is p t g
 or-layout : (w : Bool) (p : Places) (f : ℕ) (g : Growth) (ts : List ℕ) → ReadyOr w p f g ts → Layout p (length (g .books))
 or-layout true p f g ts h = h .layout
 or-layout false p f g ts h = h .layout
+
+or-r3 : (w : Bool) (p : Places) (f : ℕ) (g : Growth) (ts : List ℕ) → ReadyOr w p f g ts → R3 (viewOf p (g .books))
+or-r3 true p f g ts h = h .stocked .r3
+or-r3 false p f g ts h = h .stocked .r3
 
 module _ (p : Places) (f : ℕ) (g : Growth) (t : ℕ) (ts : List ℕ) where
   or-typed : (w : Bool) → ReadyOr w p f g (t ∷ ts) → DataType t
@@ -94,6 +99,9 @@ adding-none w p f t n g h =
 module _ (w : Bool) (p : Places) (f t n : ℕ) (g m : Growth) (from : Found) (i : ℕ) (h : Adding w p f t n g m from i) where
   pub adding-layout : Layout p (length (m .books))
   adding-layout = or-layout w p f m _ (h .ready)
+
+  pub adding-r3 : R3 (viewOf p (m .books))
+  adding-r3 = or-r3 w p f m _ (h .ready)
 
   module _ (l : i < n) where
     adding-left : ReadyOr w p f m (t ∷ replicate (n - (i + 1)) t)

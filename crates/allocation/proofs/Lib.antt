@@ -7,9 +7,11 @@ pub mod NextLaws
 pub mod OneZoneLaws
 pub mod StockLaws
 pub mod NextGround
-pub mod ChooseLaws
-pub mod OrderLaws
 pub mod TailLaws
+pub mod NeighbourLaws
+pub mod ChooseLaws
+pub mod TogetherLaws
+pub mod OrderLaws
 pub mod TableLaws
 pub mod LastLaws
 pub mod FileSame
@@ -37,5 +39,6 @@ pub mod FrontLaws
 pub mod RestatedLaws
 pub mod StampedLaws
 pub mod GrownLawful
+pub mod GrownView
 pub mod HeaderHeld
 pub mod RunTakenLaws

@@ -6,16 +6,17 @@ use lib.Dec.{leb}
 use borrow.Author.Tests.{eq-eqb, ne-eqb, lt-ltb, le-ltb}
 use Rattle.allocation.specs.declared.tail.Tail.{Tail}
 use Rattle.allocation.specs.declared.tail.Pushed.the-variants.{Joined, Beside, Further}
-use Rattle.allocation.specs.NextPointer.{joins, longer, beside, further, push}
+use Rattle.allocation.specs.NextPointer.{endSector, joins, longer, beside, further, push}
 
 module _ (l : Tail) (s size : ℕ) where
-  pub joins-apart : (l .last .start .0 + l .last .count ≡ s → ⊥) → false ≡ joins l s size
-  unfolding joins
-  joins-apart ne = rw (ne-eqb (l .last .start .0 + l .last .count) s ne)
+  module _ (end : ℕ) (at : end ≡ endSector l) where
+    pub joins-apart : (end ≡ s → ⊥) → false ≡ joins l s size
+    unfolding joins
+    joins-apart ne = rw (ne-eqb (endSector l) s (λ e. ne (at ∙ e)))
 
-  pub joins-next : l .last .start .0 + l .last .count ≡ s → leb (l .last .count + size) 32767 ≡ joins l s size
-  unfolding joins
-  joins-next e = rw (eq-eqb (l .last .start .0 + l .last .count) s e)
+    pub joins-next : end ≡ s → leb (l .last .count + size) 32767 ≡ joins l s size
+    unfolding joins
+    joins-next e = rw (eq-eqb (endSector l) s (sym at ∙ e))
 
   module _ (r : Bool) (is : r ≡ joins l s size) where
     pub push-joined : r ≡ true → Joined (longer l size) ≡ push l s size

@@ -62,7 +62,7 @@ withGround v zone bit = record {
 }
 
 -- v with other index tables and another free chain
-abbrev withTables : View → (ℕ → List ℕ) → ℕ → ℕ → View
+abbrev pub withTables : View → (ℕ → List ℕ) → ℕ → ℕ → View
 withTables v table head free = record {
   zones = v .zones;
   indexes = v .indexes;
@@ -140,10 +140,10 @@ startedView v n = record { view = madeView v n; cursor = record { tail = noPoint
 
 -- ---- each step on views that are the same
 
-at-here : {A : Type 0} (j i : ℕ) (x y : A) → j ≡ i → cond (eqb j i) x y ≡ x
+pub at-here : {A : Type 0} (j i : ℕ) (x y : A) → j ≡ i → cond (eqb j i) x y ≡ x
 at-here j i x y e = rw (eq-eqb j i e)
 
-at-other : {A : Type 0} (j i : ℕ) (x y : A) → j ≢ i → cond (eqb j i) x y ≡ y
+pub at-other : {A : Type 0} (j i : ℕ) (x y : A) → j ≢ i → cond (eqb j i) x y ≡ y
 at-other j i x y ne = rw (ne-eqb j i ne)
 
 view-taken : (w : View) (t : ℕ) (k : Found) → Taken w (takenView w t k) t k
@@ -172,7 +172,7 @@ module _ (v w v' : View) (a : Same v w) where
         head = a .head ∙ sym (f .head);
       }
 
-  same-tables : (table : ℕ → List ℕ) (head free : ℕ) → Ground v v' → v' .indexes ≡ v .indexes → ((j : ℕ) → 1 ≤ j → j ≤ v .indexes → table j ≡ v' .table j) → head ≡ v' .head
+  pub same-tables : (table : ℕ → List ℕ) (head free : ℕ) → Ground v v' → v' .indexes ≡ v .indexes → ((j : ℕ) → 1 ≤ j → j ≤ v .indexes → table j ≡ v' .table j) → head ≡ v' .head
       → Same v' (withTables w table head free)
   same-tables table head free ground indexes tables heads =
       let g = ground-on ground in

@@ -1,12 +1,14 @@
 -- "Blocks are taken type H first, C last, one at a time: the lowest free block of the lowest zone of that type that isn't open; else the
--- lowest open zone gets the type and gives block 0."
-use mathlib.Core.Bool.{Bool, cond}
+-- lowest open zone gets the type and gives block 0." "Before the usual choice, try the block that starts where the file's last pointer ends, if
+-- it is free, of the wanted type, in a zone that isn't open; a new file's first block is chosen as before." (W4)
+use mathlib.Core.Bool.{Bool, cond, not, _&&_}
 use mathlib.Core.List.{List, [], _∷_, _++_}
-use Prim.Native.Nat.{ℕ, _+_, _-_, _*_}
-use lib.Dec.{eqb, ltb}
+use Prim.Native.Nat.{ℕ, _+_, _-_, _*_, _/_, _%_}
+use lib.Dec.{eqb, leb, ltb}
 use lib.ListN.{length, replicate}
 use Rattle.tables.specs.declared.places.Places.{Places}
-use Rattle.tables.specs.Kinds.{firstOf}
+use Rattle.tables.specs.declared.zone.ZoneEntry.{ZoneEntry}
+use Rattle.tables.specs.Kinds.{zoneOf, firstOf}
 use Rattle.tables.specs.Blocks.{typeAt, blockOf, perZone}
 use Rattle.tables.specs.Zones.{putZone}
 use Rattle.tables.specs.Sectors.{putSectors}
@@ -16,6 +18,7 @@ use Rattle.tables.specs.Room.{spareIn}
 use Rattle.allocation.specs.declared.choice.Found.{Found}
 use Rattle.allocation.specs.declared.tail.Tail.{Tail}
 use Rattle.allocation.specs.Find.{find}
+use Rattle.allocation.specs.NextPointer.{endSector}
 
 -- "type H first, C last": the types of the blocks that are counted H to C
 unfoldable pub inOrder : List ℕ → List ℕ
@@ -69,10 +72,35 @@ nextBlock v t =
     let there = openBlock v t in
     cond (ltb z (v .zones)) here there
 
--- the block of type t that is added after the tail l: the next one, wherever the file's pointers end
+-- ---- the neighbour
+
+-- "a zone that has the wanted type and isn't open"
+unfoldable pub ofType : ℕ → ZoneEntry → Bool
+unfolding isOpen
+ofType t e = eqb (e .ztype) t && not (isOpen e)
+
+-- "If e starts a block of a zone that has the wanted type and isn't open, and that block is free": e is the sector behind the last pointer's
+-- last, in neither of the system zones 1 and Z; the block is free where the bit of e is clear, and by R3 the others' too. A new file has no
+-- pointer, and its tail ends at sector 0
+unfoldable pub hasNeighbour : View → Tail → ℕ → Bool
+unfolding ofType
+hasNeighbour v l t =
+    let e = endSector l in
+    leb 1024 e && (ltb e (1024 * (v .zones - 1)) && (ofType t (v .zone (zoneOf e)) && (eqb (e % 1024 % blockOf t) 0 && eqb (v .bit e) 0)))
+
+-- that block
+unfoldable pub neighbour : View → Tail → ℕ → Found
+neighbour v l t =
+    let z = zoneOf (endSector l) in
+    record { zone = record { 0 = z }; number = endSector l % 1024 / blockOf t; free = v .zone z .free - 1 }
+
+-- the block of type t that is added after the tail l: "it is taken. Else the usual choice."
 unfoldable pub choose : View → Tail → ℕ → Found
-unfolding nextBlock
-choose v l t = nextBlock v t
+unfolding hasNeighbour neighbour nextBlock
+choose v l t =
+    let here = neighbour v l t in
+    let there = nextBlock v t in
+    cond (hasNeighbour v l t) here there
 
 -- ---- taken
 

@@ -4,7 +4,7 @@ use mathlib.Core.List.{List}
 use Prim.Native.Nat.{ℕ, zero, suc, _+_}
 use lib.Dec.{eqb}
 use Rattle.tables.specs.declared.places.Places.{Places}
-use Rattle.tables.specs.Indexes.{tableAt, slotsOf, startOf, countOf, pointerAt, pointerPlace}
+use Rattle.tables.specs.Indexes.{slotsOf, startOf, countOf, pointerAt, pointerPlace}
 use Rattle.tables.specs.Views.{View, viewOf, next}
 use Rattle.allocation.specs.declared.growth.Cursor.{Cursor}
 use Rattle.allocation.specs.Find.{find}
@@ -25,13 +25,18 @@ unfolding find
 usedPointers i t = find (λ j. eqb (startOf i t j + countOf i t j) 0) (slotsOf i t) 0
 
 -- where file f goes on; it has taken no further table yet
-unfoldable pub cursorOf : Places → List ℕ → ℕ → Cursor
+unfoldable pub cursorIn : View → ℕ → Cursor
 unfolding lastTable usedPointers
-cursorOf p b f =
-    let i = lastTable (viewOf p b) f in
-    let capacity = slotsOf i (tableAt p b i) in
-    let slot = usedPointers i (tableAt p b i) in
+cursorIn v f =
+    let i = lastTable v f in
+    let capacity = slotsOf i (v .table i) in
+    let slot = usedPointers i (v .table i) in
     record {
-      tail = record { last = pointerAt (tableAt p b i) (pointerPlace capacity slot); slot = slot; capacity = capacity; tables = 0 };
+      tail = record { last = pointerAt (v .table i) (pointerPlace capacity slot); slot = slot; capacity = capacity; tables = 0 };
       table = record { 0 = i };
     }
+
+-- in the books b
+unfoldable pub cursorOf : Places → List ℕ → ℕ → Cursor
+unfolding cursorIn
+cursorOf p b f = cursorIn (viewOf p b) f

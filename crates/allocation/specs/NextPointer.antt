@@ -14,9 +14,13 @@ use Rattle.allocation.specs.declared.tail.Pushed.the-variants.{Joined, B
 abbrev pub placeOf : Tail → ℕ
 placeOf l = pointerPlace (l .capacity) (l .slot)
 
+-- "the sector behind the last pointer's last"
+abbrev pub endSector : Tail → ℕ
+endSector l = l .last .start .0 + l .last .count
+
 -- "A block next after the last pointer's end joins it unless the count would pass 32,767": `size` sectors from s on
 unfoldable pub joins : Tail → ℕ → ℕ → Bool
-joins l s size = eqb (l .last .start .0 + l .last .count) s && leb (l .last .count + size) 32767
+joins l s size = eqb (endSector l) s && leb (l .last .count + size) 32767
 
 -- the last pointer with so many sectors more
 abbrev pub longer : Tail → ℕ → Tail

@@ -1,26 +1,32 @@
 // The choice of blocks, one at a time, and a block taken.
 use crate::tail::Tail;
+use crate::tail::end_sector;
+use field::bits::get_bit;
 use tables::blocks::block_sectors;
 use tables::blocks::zone_blocks;
 use tables::kinds::Sector;
 use tables::kinds::Zone;
 use tables::kinds::first_sector;
+use tables::kinds::zone_of;
 use tables::open::is_open;
 use tables::places::Places;
 use tables::room::spare_in;
 use tables::sector::put_sectors;
 use tables::sector::used_ahead;
 use tables::sizes::ZONE;
+use tables::zone::ZoneEntry;
 use tables::zone::put_zone;
 use tables::zone::zone_entry;
 ghost use mathlib.Core.Path.{_≡_};
+ghost use mathlib.Core.Bool.{true};
 ghost use Prim.Native.Nat.{_-_, _≤_, _<_};
 ghost use lib.ListN.{length};
 ghost use Rattle.tables.specs.Blocks.{DataType, perZone};
 ghost use Rattle.tables.specs.Places.{Layout};
+ghost use Rattle.tables.specs.Rules.R3.{R3};
 ghost use Rattle.tables.specs.Views.{viewOf};
 ghost use Rattle.allocation.specs.Find.{find};
-ghost use Rattle.allocation.specs.Choice.{begun, lowestOpen, isClear, openBlock, nextBlock, blockStart, putBlock};
+ghost use Rattle.allocation.specs.Choice.{begun, lowestOpen, isClear, openBlock, nextBlock, ofType, hasNeighbour, neighbour, blockStart, putBlock};
 ghost use Rattle.allocation.specs.Candidates.{Proper, Behind, Chooses};
 
 // A block by its zone, its number in the zone, and the free blocks that the zone has without it.
@@ -131,13 +137,68 @@ fn next_block(b: &[u8], p: Places, t: u32, last: Found) -> Found
     }
 }
 
-// The block of type t that is added after the tail l; none is looked for below `from`.
+// Is a zone with this entry of type t, and not open?
+fn of_type(e: ZoneEntry, t: u32) -> bool
+    ensures { λ r. ⌜ r ≡ ofType t e ⌝ }
+{
+    if e.ztype != t {
+        return false;
+    }
+    !is_open(e)
+}
+
+// Does the sector behind the last pointer's last start a free block, of a zone of type t that isn't open?
+fn has_neighbour(b: &[u8], p: Places, l: Tail, t: u32) -> bool
+    requires { ⌜ Layout p (length (now b)) ⌝ }
+    requires { ⌜ DataType t ⌝ }
+    ensures { λ r. ⌜ r ≡ hasNeighbour (viewOf p (now (b .entry))) l t ⌝ }
+{
+    let end = end_sector(l);
+    if end < ZONE as u64 {
+        return false;
+    }
+    if end >= ZONE as u64 * (p.zones as u64 - 1) {
+        return false;
+    }
+    let s = Sector(end as u32);
+    if !of_type(zone_entry(b, p, zone_of(s)), t) {
+        return false;
+    }
+    if s.0 % ZONE % block_sectors(t) != 0 {
+        return false;
+    }
+    get_bit(b, p.sectortable, s.0 as usize) == 0
+}
+
+// That block.
+fn neighbour_block(b: &[u8], p: Places, l: Tail, t: u32) -> Found
+    requires { ⌜ Layout p (length (now b)) ⌝ }
+    requires { ⌜ DataType t ⌝ }
+    requires { ⌜ R3 (viewOf p (now b)) ⌝ }
+    requires { ⌜ hasNeighbour (viewOf p (now b)) l t ≡ true ⌝ }
+    ensures { λ r. ⌜ r ≡ neighbour (viewOf p (now (b .entry))) l t ⌝ }
+{
+    let s = Sector(end_sector(l) as u32);
+    let zone = zone_of(s);
+    Found {
+        zone,
+        number: s.0 % ZONE / block_sectors(t),
+        free: zone_entry(b, p, zone).free - 1,
+    }
+}
+
+// The block of type t that is added after the tail l: the neighbour if there is one, else the next one, which is not looked for below `from`.
 pub fn choose_block(b: &[u8], p: Places, l: Tail, t: u32, from: Found) -> Choice
     requires { ⌜ Layout p (length (now b)) ⌝ }
     requires { ⌜ DataType t ⌝ }
+    requires { ⌜ R3 (viewOf p (now b)) ⌝ }
     requires { ⌜ Behind (viewOf p (now b)) t from ⌝ }
     ensures { λ r. ⌜ Chooses (viewOf p (now (b .entry))) l t r ⌝ }
 {
+    if has_neighbour(b, p, l, t) {
+        let block = neighbour_block(b, p, l, t);
+        return Choice { block, from };
+    }
     let k = next_block(b, p, t, from);
     Choice { block: k, from: k }
 }

@@ -3,7 +3,7 @@ use tables::index::Pointer;
 use tables::kinds::Sector;
 ghost use mathlib.Core.Path.{_≡_};
 ghost use Prim.Native.Nat.{_≤_, _<_};
-ghost use Rattle.allocation.specs.NextPointer.{joins, push, tailOf, noPointer};
+ghost use Rattle.allocation.specs.NextPointer.{endSector, joins, push, tailOf, noPointer};
 
 // The last pointer, how many pointers its table has used, for how many it has room, and the tables taken.
 pub struct Tail {
@@ -33,11 +33,18 @@ pub fn tail_of(r: Pushed) -> Tail
     }
 }
 
+// The sector behind the last pointer's last.
+pub fn end_sector(l: Tail) -> u64
+    ensures { λ r. ⌜ r ≡ endSector l ⌝ }
+{
+    l.last.start.0 as u64 + l.last.count as u64
+}
+
 fn joins_last(l: Tail, s: Sector, size: u32) -> bool
     requires { ⌜ (l .last .count ≤ 32767) × (size ≤ 1024) ⌝ }
     ensures { λ r. ⌜ r ≡ joins l (s .0) size ⌝ }
 {
-    if l.last.start.0 as u64 + l.last.count as u64 != s.0 as u64 {
+    if end_sector(l) != s.0 as u64 {
         return false;
     }
     l.last.count + size <= 32767

@@ -193,6 +193,28 @@ fn growing() {
     space(&full);
 }
 
+// Two files with blocks of type D that grow in turn. Side by side, the block behind each file's end is the other's.
+fn in_turn(body: &mut [u8]) {
+    let fresh = mounted(formatted(4, 8));
+    let one = create_cell(b"cell 4096", fresh, b"one", 4096);
+    let both = create_cell(b"cell 4096", one, b"two", 4096);
+    let first = grow_to(b"grow to 8192", both, 1, 8192);
+    let second = grow_to(b"grow to 8192", first, 2, 8192);
+    behind_a_hole(second, body);
+}
+
+// Once the first is gone, the block behind the second's end is free and is taken, though lower ones are. A new file begins at the lowest of
+// these.
+fn behind_a_hole(card: [u8; 5120], body: &mut [u8]) {
+    let gone = delete_both(card, body, 1);
+    let joined = grow_to(b"grow to 12288", gone, 2, 12288);
+    let again = create_cell(b"cell 4096", joined, b"three", 4096);
+    // two blocks: the other hole, then behind the second file
+    let holes = grow_to(b"grow to 12288", again, 1, 12288);
+    let last = grow_to(b"grow to 16384", holes, 2, 16384);
+    space(&last);
+}
+
 // Two curves on the card, 1 "CURVE 60A" and 2 "CURVE 100A".
 fn asked(card: &[u8]) {
     find(card, b"CURVE?");
@@ -349,6 +371,7 @@ fn cards_on(body: &mut [u8])
 {
     giving_back(&mut body[0..1048576]);
     growing();
+    in_turn(body);
     day(body);
     day_moving(&mut body[0..1048576]);
     header_day(body);

@@ -107,7 +107,7 @@ module _ (p : Places) (b : List ℕ) (lay : Layout p (length b)) {extra : ℕ �
   inside = tables-in v f m parent chain
 
   -- R7: what its tables claim is set, and claimed once
-  gone-is : (s : ℕ) → gone v f s ≡ sumTo (suc m) (λ k. claimsOf (table k) (tableAt p b (table k)) s)
+  pub gone-is : (s : ℕ) → gone v f s ≡ sumTo (suc m) (λ k. claimsOf (table k) (tableAt p b (table k)) s)
   unfolding gone
   gone-is s = file-tally v (lawful .r4) (lawful .r5) (lay .few) f parent (λ i t. claimsOf i t s)
 
@@ -148,7 +148,7 @@ module _ (p : Places) (b : List ℕ) (lay : Layout p (length b)) {extra : ℕ �
     link-kept : Kept c d (tablePlace p last) 128
     link-kept = rw ed (kept-wider (kept-putU32 c (tablePlace p last + 124) (firstFreeOf b)) (omega arith) (omega arith))
 
-    linked-last : tableAt p d last ≡ putU32 (tableAt p c last) 124 (firstFreeOf b)
+    pub linked-last : tableAt p d last ≡ putU32 (tableAt p c last) 124 (firstFreeOf b)
     linked-last = ap (λ (x : List ℕ). tableAt p x last) ed ∙ table-put32 p c last 124 (firstFreeOf b) (omega arith)
 
     -- its tables keep all but that link
@@ -192,13 +192,13 @@ module _ (p : Places) (b : List ℕ) (lay : Layout p (length b)) {extra : ℕ �
     -- ---- and sector 1
 
     module _ (date : List ℕ) (six : length date ≡ 6) (w : List ℕ) (ew : w ≡ putFreed d f (fileTables v f) date) where
-      lay' : Layout p (length d)
+      pub lay' : Layout p (length d)
       lay' = rw (linked-spared .kept .len) lay
 
       st : Status d w f (fileTables v f)
       st = rw ew (freed-status d f (fileTables v f) date six (omega (arith, lay' .zone, lay' .sector, lay' .index, lay' .end)))
 
-      inner : Kept d w 1024 1024
+      pub inner : Kept d w 1024 1024
       inner = kept-wider (st .kept) (omega arith) (omega arith)
 
       word : (o : ℕ) → o + 4 ≤ 2048 → u32At d o ≡ u32At b o

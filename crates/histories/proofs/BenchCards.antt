@@ -6,13 +6,13 @@ use mathlib.Core.Bool.{Bool}
 use Prim.Native.Nat.{ℕ, zero, suc, _%_, _≤_, _<_}
 use native.Mathlib.Omega.{arith}
 use lib.ListN.{length, replicate}
-use Rattle.field.specs.Numbers.{u16At, u32At, putU16, putU32}
+use Rattle.field.specs.Numbers.{u16At, u32At, putU32}
 use Rattle.field.specs.Parts.{over}
 use Rattle.tables.specs.declared.counts.Chosen.the-variants.{Types}
 use Rattle.tables.specs.Books.{GoodWith}
 use Rattle.tables.specs.Gates.{asks, Gate}
 use Rattle.tables.specs.Places.{placesOf}
-use Rattle.tables.specs.Zones.{zoneAt, putZone}
+use Rattle.tables.specs.Zones.{putZone}
 use Rattle.tables.specs.Indexes.{tableAt, wordOf, lengthOf, attributeOf, slotsOf, baseOf}
 use Rattle.tables.specs.Sector1.{firstFreeOf, flagOf}
 use Rattle.tables.specs.Views.{View, viewOf}
@@ -20,8 +20,8 @@ use Rattle.tables.specs.Counts.{countsOf}
 use Rattle.tables.specs.Format.{freshPlaces, formatted}
 use Rattle.tables.specs.Rules.R7.{nothing}
 use Rattle.tables.proofs.GateLaws.{gate-fails, gate-passes, gate-end, gate-skip, good-gate}
-use Rattle.allocation.specs.Find.{find}
 use Rattle.allocation.specs.NextPointer.{noPointer}
+use Rattle.allocation.specs.NewTables.{New}
 use Rattle.allocation.specs.MadeFiles.{ProvidedWith}
 use Rattle.files.specs.Moves.{moved, sectorContent, fetched}
 use Rattle.files.specs.Spots.{spotOf, kthSector}
@@ -35,45 +35,34 @@ use Rattle.requests.specs.Read.{readTests, readAmount, readOut, ReadOut}
 use Rattle.requests.specs.Moving.{wholeSectors, endOf, MoveAllowed}
 use Rattle.requests.proofs.CreateKeeps.{creates-asks, fixed-lawful}
 use Rattle.requests.proofs.ReadLaws.{read-one}
-use Rattle.histories.specs.Cards.{OneResult, done, refused, cardDate, pointersIn, run, CreateNamed, Create, ReadGives, label, blank, fresh, after5, after6, after8, after9, after10, Cards}
+use Rattle.histories.specs.Cards.{OneResult, done, refused, cardDate, pointersIn, run, CreateNamed, Create, ReadGives, label, blank, fresh, after5, after6, after8, after9, after10, grown2, deleted1, joined2, Cards}
 use Rattle.histories.proofs.CreateAnswers.{bare-good, create-bad, create-done}
-use Rattle.histories.proofs.CardBooks.{view, withView, roomy, taken, Starts, start, Allowed, allowed, Makes, no-room, makes, bytes, pointers, zone-free, kth-same}
+use Rattle.histories.proofs.InterleavedCards.{viewGrown2, viewDeleted1, viewJoined2, making1, making2, growing1, growing2, removing1, deleting1, joining2, tables12, zone12, table13, zones13}
+use Rattle.histories.proofs.CardBooks.{view, withFixedView, roomy, taken, fresh4, fresh3, fresh36, AllowedNamed, Allowed, allowed, Makes, no-room, makes-fixed, bytes, pointers, zone-free, kth-same}
 
 -- ---- the views in turn
 
 view5 : View
-unfolding withView view
-view5 = withView (view 5120 4) 252 5000
+unfolding withFixedView view
+view5 = withFixedView (view 5120 4) 252 5000
 
 view6 : View
-unfolding withView view5
-view6 = withView view5 252 1
+unfolding withFixedView view5
+view6 = withFixedView view5 252 1
 
 view8 : View
-unfolding withView view6
-view8 = withView view6 4 20480
+unfolding withFixedView view6
+view8 = withFixedView view6 4 20480
 
 view9 : View
-unfolding withView view
-view9 = withView (view 5120 3) 4 5000
+unfolding withFixedView view
+view9 = withFixedView (view 5120 3) 4 5000
 
 view10 : View
-unfolding withView view
-view10 = withView (view 9216 36) 128 33554432
+unfolding withFixedView view
+view10 = withFixedView (view 9216 36) 128 33554432
 
 -- ---- what create makes of the books
-
-fresh4 : Starts 5120 4
-unfolding blank label formatted putZone putU16 putU32 over zoneAt u16At u32At find
-fresh4 = start 5120 4 refl (omega arith) (omega arith) (omega arith) (omega arith) (omega arith) refl refl refl refl
-
-fresh3 : Starts 5120 3
-unfolding blank label formatted putZone putU16 putU32 over zoneAt u16At u32At find
-fresh3 = start 5120 3 refl (omega arith) (omega arith) (omega arith) (omega arith) (omega arith) refl refl refl refl
-
-fresh36 : Starts 9216 36
-unfolding blank label formatted putZone putU16 putU32 over zoneAt u16At u32At find
-fresh36 = start 9216 36 refl (omega arith) (omega arith) (omega arith) (omega arith) (omega arith) refl refl refl refl
 
 -- the default
 all-types : (size : ℕ) → 1 ≤ size → size ≤ 2147483647 → Allowed 252 size
@@ -85,33 +74,33 @@ only-C size = allowed 1 4 size (omega arith) (omega arith) refl (omega arith) (o
 only-H : (size : ℕ) → 1 ≤ size → size ≤ 2147483647 → Allowed 128 size
 only-H size = allowed 1 128 size (omega arith) (omega arith) refl (omega arith) (omega arith)
 
-made5 : Makes 4 (fresh 5120 4) 252 5000 1 after5 view5
+made5 : Makes 4 (Create (fresh 5120 4) 252 5000) (done 1) after5 view5
 unfolding after5 view5 view roomy taken
-made5 = makes 4 (fresh 5120 4) (view 5120 4) 252 5000 (fresh4 .usable) (all-types 5000 (omega arith) (omega arith)) refl refl refl 1 refl
+made5 = makes-fixed 4 (fresh 5120 4) (view 5120 4) 252 5000 (fresh4 .usable) (all-types 5000 (omega arith) (omega arith)) refl refl refl 1 refl
 
-made6 : Makes 4 after5 252 1 2 after6 view6
+made6 : Makes 4 (Create after5 252 1) (done 2) after6 view6
 unfolding after6 view6 view5 roomy taken blank formatted label putZone tableAt putU32 over
-made6 = makes 4 after5 view5 252 1 (made5 .usable) (all-types 1 (omega arith) (omega arith)) refl refl refl 2 refl
+made6 = makes-fixed 4 after5 view5 252 1 (made5 .usable) (all-types 1 (omega arith) (omega arith)) refl refl refl 2 refl
 
 refused7 : OneResult (Create after6 252 20480) (refused 12) after6
 unfolding view6 roomy countsOf
-refused7 = no-room 4 after6 view6 252 20480 (made6 .usable) (all-types 20480 (omega arith) (omega arith)) refl
+refused7 = no-room 4 after6 view6 (made6 .usable) _ _ _ (all-types 20480 (omega arith) (omega arith)) refl
 
-made8 : Makes 4 after6 4 20480 3 after8 view8
+made8 : Makes 4 (Create after6 4 20480) (done 3) after8 view8
 unfolding after8 view8 view6 roomy taken blank formatted label putZone tableAt putU32 over
-made8 = makes 4 after6 view6 4 20480 (made6 .usable) (only-C 20480 (omega arith) (omega arith)) refl refl refl 3 refl
+made8 = makes-fixed 4 after6 view6 4 20480 (made6 .usable) (only-C 20480 (omega arith) (omega arith)) refl refl refl 3 refl
 
 refused9 : OneResult (Create (fresh 5120 3) 252 5000) (refused 12) (fresh 5120 3)
 unfolding view roomy countsOf
-refused9 = no-room 3 (fresh 5120 3) (view 5120 3) 252 5000 (fresh3 .usable) (all-types 5000 (omega arith) (omega arith)) refl
+refused9 = no-room 3 (fresh 5120 3) (view 5120 3) (fresh3 .usable) _ _ _ (all-types 5000 (omega arith) (omega arith)) refl
 
-made9 : Makes 3 (fresh 5120 3) 4 5000 1 after9 view9
+made9 : Makes 3 (Create (fresh 5120 3) 4 5000) (done 1) after9 view9
 unfolding after9 view9 view roomy taken
-made9 = makes 3 (fresh 5120 3) (view 5120 3) 4 5000 (fresh3 .usable) (only-C 5000 (omega arith) (omega arith)) refl refl refl 1 refl
+made9 = makes-fixed 3 (fresh 5120 3) (view 5120 3) 4 5000 (fresh3 .usable) (only-C 5000 (omega arith) (omega arith)) refl refl refl 1 refl
 
-made10 : Makes 36 (fresh 9216 36) 128 33554432 1 after10 view10
+made10 : Makes 36 (Create (fresh 9216 36) 128 33554432) (done 1) after10 view10
 unfolding after10 view10 view roomy taken
-made10 = makes 36 (fresh 9216 36) (view 9216 36) 128 33554432 (fresh36 .usable) (only-H 33554432 (omega arith) (omega arith)) refl refl refl 1 refl
+made10 = makes-fixed 36 (fresh 9216 36) (view 9216 36) 128 33554432 (fresh36 .usable) (only-H 33554432 (omega arith) (omega arith)) refl refl refl 1 refl
 
 abbrev good5 : GoodWith nothing after5 (freshPlaces 4 8)
 good5 = made5 .usable .good
@@ -134,10 +123,11 @@ unfolding view
 long-name =
     let a = allowed 24 252 5000 (omega arith) (omega arith) refl (omega arith) (omega arith) (omega arith) (omega arith) in
     let e : firstFreeOf (fresh 5120 4) ≡ 1 = sym (fresh4 .usable .staged .same .head) in
-    (_, rw e at (create-done (fresh 5120 4) (freshPlaces 4 8) (replicate 24 65) 5000 252 0 cardDate (fresh4 .usable .good) used4 a provided5))
+    let n : New = record { name = replicate 24 65; date = cardDate; length = 5000; attribute = 0 } in
+    (_, rw e at (create-done (fresh 5120 4) (freshPlaces 4 8) (AllowedNamed (replicate 24 65) 252 5000) (countsOf 252 5000) n (fresh4 .usable .good) used4 a provided5))
 
 longer-name : OneResult (CreateNamed (replicate 25 65) (fresh 5120 4) 252 5000) (refused 7) (fresh 5120 4)
-longer-name = create-bad (fresh 5120 4) (freshPlaces 4 8) (replicate 25 65) 5000 252 0 cardDate (fresh4 .usable .good) used4 (λ a. omega (arith, a .file .name' .most))
+longer-name = create-bad (fresh 5120 4) (freshPlaces 4 8) _ _ _ (fresh4 .usable .good) used4 (λ a. omega (arith, a .file .name' .most))
 
 -- ---- what read finds in the books after P5
 
@@ -263,5 +253,22 @@ cards = record {
   p9 = (refused9, made9 .result, pointers 3 after9 view9 (made9 .usable) 1 (omega arith) (omega arith) ∙ table9);
   p10 = (made10 .result, pointers 36 after10 view10 (made10 .usable) 1 (omega arith) (omega arith) ∙ table10);
   p11 = (last-sector, past-end, no-bytes);
+  p12 = (
+    making1 .result,
+    making2 .result,
+    growing1 .result,
+    growing2 .result,
+    pointers 4 grown2 viewGrown2 (growing2 .usable) 1 (omega arith) (omega arith) ∙ tables12 .0,
+    pointers 4 grown2 viewGrown2 (growing2 .usable) 2 (omega arith) (omega arith) ∙ tables12 .1,
+    zone-free 4 grown2 viewGrown2 (growing2 .usable) 2 (omega arith) (omega arith) ∙ zone12,
+  );
+  p13 = (
+    removing1 .1,
+    deleting1 .1,
+    zone-free 4 deleted1 viewDeleted1 (deleting1 .0) 2 (omega arith) (omega arith) ∙ zones13 .0,
+    joining2 .result,
+    pointers 4 joined2 viewJoined2 (joining2 .usable) 2 (omega arith) (omega arith) ∙ table13,
+    zone-free 4 joined2 viewJoined2 (joining2 .usable) 2 (omega arith) (omega arith) ∙ zones13 .1,
+  );
   names = (long-name, longer-name);
 }

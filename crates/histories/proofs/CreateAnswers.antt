@@ -1,14 +1,12 @@
--- The one result of create fixed in good, mounted books: done, refused for want of room, refused for an argument.
+-- The one result of a create in good, mounted books: done, refused for want of room, refused for an argument.
 use mathlib.Core.Path.{refl}
 use mathlib.Core.Logic.{_≢_}
 use mathlib.Core.Bool.{true, false}
 use mathlib.Core.List.{List, []}
 use Prim.Native.Nat.{ℕ}
 use native.Mathlib.Omega.{arith}
-use Rattle.tables.specs.declared.counts.Chosen.the-variants.{Types}
 use Rattle.tables.specs.declared.places.Places.{Places}
 use Rattle.tables.specs.Books.{Good, GoodWith}
-use Rattle.tables.specs.Counts.{countsOf}
 use Rattle.tables.specs.Gates.{Gate}
 use Rattle.tables.specs.Room.{countAt, Supply}
 use Rattle.tables.specs.Sector1.{firstFreeOf, flagOf}
@@ -18,10 +16,9 @@ use Rattle.tables.proofs.RoomLaws.{enough-supply}
 use Rattle.allocation.specs.MadeFiles.{ProvidedWith, created}
 use Rattle.allocation.specs.NewTables.{New}
 use Rattle.allocation.specs.NextPointer.{noPointer}
-use Rattle.requests.specs.declared.amount.Amount.the-variants.{Is}
 use Rattle.requests.specs.declared.create.Created.{Created}
 use Rattle.requests.specs.Answers.{useTests, argumentTests}
-use Rattle.requests.specs.Create.{roomTests, Creates, attributeFor, FixedAllowed, CreatedFixed}
+use Rattle.requests.specs.Create.{roomTests, Creates}
 use Rattle.histories.specs.Cards.{OneResult, done, refused}
 use Rattle.tables.specs.Rules.R7.{nothing}
 use Rattle.tables.proofs.WithheldLaws.{good-same, none-withheld, none-list}
@@ -33,18 +30,10 @@ use Rattle.requests.proofs.CreateLaws.{make-refused, make-done, create-stops, c
 pub bare-good : (b : List ℕ) (p : Places) → GoodWith nothing b p → Good b [] p
 bare-good b p g = record { list = none-list (viewOf p b); books = good-same b p (none-withheld (viewOf p b)) g }
 
-module _ (b : List ℕ) (p : Places) (name : List ℕ) (size flag kind : ℕ) (date : List ℕ) (good : GoodWith nothing b p) (mounted : flagOf b ≢ 0) where
+-- a file `new` with blocks of these counts, after a test of arguments that asks for Allowed
+module _ (b : List ℕ) (p : Places) (Allowed : Type 0) (counts : List ℕ) (new : New) (good : GoodWith nothing b p) (mounted : flagOf b ≢ 0) where
   abbrev Promise : Created → List ℕ → Type 0
-  Promise = CreatedFixed b [] name (Is size) (Types flag) kind date
-
-  abbrev Allowed : Type 0
-  Allowed = FixedAllowed name (Is size) (Types flag) kind date
-
-  abbrev counts : List ℕ
-  counts = countsOf flag size
-
-  abbrev new : New
-  new = record { name = name; date = date; length = size; attribute = attributeFor 0 kind }
+  Promise = Creates (argumentTests b [] Allowed) b counts new
 
   one : (r : Created) (b' : List ℕ) → Promise r b' → OneResult Promise r b'
   one r b' h = record { met = h; only = λ s c k. creates-one (argumentTests b [] Allowed) b counts new s r c b' k h }

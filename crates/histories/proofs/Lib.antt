@@ -13,5 +13,11 @@ pub mod ReadBack
 pub mod DemandThree
 pub mod WornSectors
 pub mod CreateAnswers
+pub mod GrowAnswers
+pub mod DeleteAnswers
+pub mod ReleasedView
 pub mod CardBooks
+pub mod CardGrowth
+pub mod CardDeletes
+pub mod InterleavedCards
 pub mod BenchCards

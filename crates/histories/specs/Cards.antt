@@ -1,5 +1,5 @@
--- The bench cards, one table: counts per zone type, and what the promises of format, mount, create fixed and read allow; no block is withheld. Proved by `cards` of
--- proofs/BenchCards.antt.
+-- The bench cards, one table: counts per zone type, and what the promises of format, mount, both creates, grow, both deletes and read allow;
+-- no block is withheld. Proved by `cards` of proofs/BenchCards.antt.
 use mathlib.Core.Path.{_≡_}
 use mathlib.Core.List.{List, [], _∷_}
 use mathlib.Core.Bool.{Bool}
@@ -16,8 +16,9 @@ use Rattle.tables.specs.Counts.{countsOf}
 use Rattle.tables.specs.Format.{Label, freshPlaces, formatted}
 use Rattle.allocation.specs.Last.{usedPointers}
 use Rattle.allocation.specs.NewTables.{New}
-use Rattle.allocation.specs.MadeFiles.{created}
+use Rattle.allocation.specs.MadeFiles.{onlyCounts, created, grown}
 use Rattle.files.specs.Moves.{moved, sectorContent}
+use Rattle.files.specs.Release.{released}
 use Rattle.requests.specs.declared.amount.Amount.the-variants.{Is}
 use Rattle.requests.specs.declared.answer.Answer.{Answer}
 use Rattle.requests.specs.declared.answer.Answer.the-variants.{Done, Refused}
@@ -28,7 +29,10 @@ use Rattle.requests.specs.Named.{fileBytes}
 use Rattle.requests.specs.Moving.{wholeSectors}
 use Rattle.requests.specs.Read.{ReadOut}
 use Rattle.requests.specs.declared.create.Created.{Created}
-use Rattle.requests.specs.Create.{answerOf, CreatedFixed}
+use Rattle.requests.specs.Create.{answerOf, attributeFor, CreatedFixed, CreatedVariable}
+use Rattle.requests.specs.Grow.{Grew}
+use Rattle.requests.specs.State.{removed, Removed}
+use Rattle.requests.specs.Delete.{Deleted}
 
 -- what a promise allows: the answer r with x in the lent buffer afterwards, and nothing else
 pub record OneResult {R : Type 0} (P : R → List ℕ → Type 0) (r : R) (x : List ℕ) : Type 0 where
@@ -78,10 +82,26 @@ CreateNamed name b flag size = CreatedFixed b [] name (Is size) (Types flag) 0 c
 abbrev pub Create : List ℕ → ℕ → ℕ → Created → List ℕ → Type 0
 Create = CreateNamed (65 ∷ [])
 
+-- create variable of a plain file named A, its cell of so many bytes
+abbrev pub CreateCell : List ℕ → ℕ → Created → List ℕ → Type 0
+CreateCell b cell = CreatedVariable b [] (65 ∷ []) (Is cell) 0 cardDate
+
+-- grow of file id to so many bytes
+abbrev pub GrowTo : List ℕ → ℕ → ℕ → ℕ → List ℕ → Type 0
+GrowTo b id long = Grew b [] id (Is long) cardDate
+
 -- read of file 1 at a position, of a wanted length: the one result, whatever body and buffer of enough bytes are lent
 abbrev pub ReadGives : List ℕ → ℕ → ℕ → Answer → (Bool → List ℕ → List ℕ → List ℕ) → Type 0
 ReadGives b at long r output = (exchange : Bool) (body out : List ℕ) → BodySized b body → wholeSectors long ≤ length out
     → OneResult (ReadOut b [] body 1 (Is at) (Is long) exchange out) r (output exchange body out)
+
+-- temporary delete of file id: whatever body of the right length is lent, the one result is 0 with these books, and the body as it was
+abbrev pub RemoveGives : List ℕ → ℕ → List ℕ → Type 0
+RemoveGives b id b' = (body : List ℕ) → BodySized b body → OneResult (λ (r : ℕ × List ℕ). Removed b [] body id cardDate (r .0) (r .1)) (0, b') body
+
+-- the same of actual delete
+abbrev pub DeleteGives : List ℕ → ℕ → List ℕ → Type 0
+DeleteGives b id b' = (body : List ℕ) → BodySized b body → OneResult (λ (r : ℕ × List ℕ). Deleted b [] body id cardDate (r .0) (r .1)) (0, b') body
 
 -- ---- the books of the cards
 
@@ -103,31 +123,74 @@ fresh len z = putFlag (blank len z) 1
 abbrev pub FreshBooks : ℕ → ℕ → Type 0
 FreshBooks len z = (b : List ℕ) → length b ≡ len → OneResult (Formatted b (Is z) (Is 8) label) 0 (blank len z) × OneResult (Mounted (blank len z) []) 0 (fresh len z)
 
--- a plain file of n bytes
-unfoldable pub plainFile : ℕ → New
+-- a plain file of n bytes, of variable size where `variable` is 1 and not 0
+unfoldable pub plainFile : ℕ → ℕ → New
 unfolding cardDate
-plainFile n = record { name = 65 ∷ []; date = cardDate; length = n; attribute = 0 }
+plainFile variable n = record { name = 65 ∷ []; date = cardDate; length = n; attribute = attributeFor variable 0 }
 
--- books for Z zones with a file more, whose blocks are of the types of the flag
-unfoldable pub withFile : ℕ → List ℕ → ℕ → ℕ → List ℕ
-withFile z b flag size = created (freshPlaces z 8) b (plainFile size) (countsOf flag size)
+-- books for Z zones with a file more, with blocks of these counts
+unfoldable pub withFile : ℕ → List ℕ → New → List ℕ → List ℕ
+withFile z b n counts = created (freshPlaces z 8) b n counts
 
--- the books after each card; that create leaves these, and these alone, is in the table
+-- one of fixed size, its blocks of the types of the flag
+unfoldable pub withFixed : ℕ → List ℕ → ℕ → ℕ → List ℕ
+unfolding withFile plainFile
+withFixed z b flag size = withFile z b (plainFile 0 size) (countsOf flag size)
+
+-- one block of type D, 4,096 bytes, and no other
+unfoldable pub oneD : List ℕ
+unfolding onlyCounts
+oneD = onlyCounts 4 1
+
+-- one of variable size, its cell of type D
+unfoldable pub withCell : ℕ → List ℕ → List ℕ
+unfolding withFile plainFile oneD
+withCell z b = withFile z b (plainFile 1 0) oneD
+
+-- books for Z zones with file id longer by a block of type D, and of so many bytes
+unfoldable pub withLonger : ℕ → List ℕ → ℕ → ℕ → List ℕ
+unfolding oneD cardDate
+withLonger z b id long = grown (freshPlaces z 8) b id oneD long cardDate
+
+-- the books after each card; that the requests leave these, and these alone, is in the table
 
 unfoldable pub after5 : List ℕ
-after5 = withFile 4 (fresh 5120 4) 252 5000
+after5 = withFixed 4 (fresh 5120 4) 252 5000
 
 unfoldable pub after6 : List ℕ
-after6 = withFile 4 after5 252 1
+after6 = withFixed 4 after5 252 1
 
 unfoldable pub after8 : List ℕ
-after8 = withFile 4 after6 4 20480
+after8 = withFixed 4 after6 4 20480
 
 unfoldable pub after9 : List ℕ
-after9 = withFile 3 (fresh 5120 3) 4 5000
+after9 = withFixed 3 (fresh 5120 3) 4 5000
 
 unfoldable pub after10 : List ℕ
-after10 = withFile 36 (fresh 9216 36) 128 33554432
+after10 = withFixed 36 (fresh 9216 36) 128 33554432
+
+-- of P12 and P13: two files begun, then grown in turn
+unfoldable pub begun1 : List ℕ
+begun1 = withCell 4 (fresh 5120 4)
+
+unfoldable pub begun2 : List ℕ
+begun2 = withCell 4 begun1
+
+unfoldable pub grown1 : List ℕ
+grown1 = withLonger 4 begun2 1 8192
+
+unfoldable pub grown2 : List ℕ
+grown2 = withLonger 4 grown1 2 8192
+
+-- file 1 deleted for a time, then for good, and file 2 grown again
+unfoldable pub removed1 : List ℕ
+removed1 = removed (freshPlaces 4 8) grown2 1 cardDate
+
+unfoldable pub deleted1 : List ℕ
+deleted1 = released (freshPlaces 4 8) removed1 1 cardDate
+
+unfoldable pub joined2 : List ℕ
+joined2 = withLonger 4 deleted1 2 12288
 
 -- ---- the table
 
@@ -163,6 +226,23 @@ pub record Cards : Type 0 where
   pub p11 : ReadGives after5 4096 2048 (Done 1024) (λ exchange body out. over out 0 (moved exchange (sectorContent body 2048)))
       × ReadGives after5 5120 2048 (Refused 14) (λ exchange body out. out)
       × ReadGives after5 0 1023 (Done 0) (λ exchange body out. out)
+  -- "two interleaved growing files are to be added as a case" (W4). Z=4, fresh, cells of 4,096 bytes, both grown to 8,192 in turn: each finds
+  -- the other's block behind its end, and gets the lowest free one
+  pub p12 : OneResult (CreateCell (fresh 5120 4) 4096) (done 1) begun1
+      × OneResult (CreateCell begun1 4096) (done 2) begun2
+      × OneResult (GrowTo begun2 1 8192) 0 grown1
+      × OneResult (GrowTo grown1 2 8192) 0 grown2
+      × (pointersOf grown2 1 ≡ run 1024 4 ∷ run 1032 4 ∷ [])
+      × (pointersOf grown2 2 ≡ run 1028 4 ∷ run 1036 4 ∷ [])
+      × (freeIn grown2 2 ≡ 252)
+  -- Then file 1 is deleted for good, and file 2 grown to 12,288: it gets the block behind its end, though 1024 starts the lowest free one, and
+  -- the block joins its last pointer
+  pub p13 : RemoveGives grown2 1 removed1
+      × DeleteGives removed1 1 deleted1
+      × (freeIn deleted1 2 ≡ 254)
+      × OneResult (GrowTo deleted1 2 12288) 0 joined2
+      × (pointersOf joined2 2 ≡ run 1028 4 ∷ run 1036 8 ∷ [])
+      × (freeIn joined2 2 ≡ 253)
   -- "Name of 24: taken; of 25: 7."
   pub names : ((b : List ℕ) × OneResult (CreateNamed (replicate 24 65) (fresh 5120 4) 252 5000) (done 1) b)
       × OneResult (CreateNamed (replicate 25 65) (fresh 5120 4) 252 5000) (refused 7) (fresh 5120 4)

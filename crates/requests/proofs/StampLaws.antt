@@ -65,7 +65,7 @@ module _ (p : Places) (b c : List ℕ) (f a : ℕ) (date : List ℕ) (lay : Layo
   new-kept : Kept t (putU16 (over t 34 date) 44 a) 34 12
   new-kept = kept-trans (kept-wider date-kept (omega arith) (omega arith)) (kept-wider put-kept (omega arith) (omega arith))
 
-  put-new : tableAt p (putState p c f a date) f ≡ putU16 (over t 34 date) 44 a
+  pub put-new : tableAt p (putState p c f a date) f ≡ putU16 (over t 34 date) 44 a
   unfolding putState
   put-new =
       let x = over c (tablePlace p f + 34) date in

@@ -164,7 +164,7 @@ module _ (p : Places) (b : List ℕ) (f : ℕ) (date : List ℕ) {extra : ℕ �
       quiet-good b (putState p c f a' date) p g (quiet p b c f a' date (g .layout) k (g .lawful) parent valid)
       (attributed-lawful p b c f a' date (g .layout) k (g .lawful) parent valid (l .few) (l .variable) (l .directory) (l .system) r9)
 
-  removed-good : deletedBit a ≡ 0 → GoodWith extra (removed p b f date) p
+  pub removed-good : deletedBit a ≡ 0 → GoodWith extra (removed p b f date) p
   unfolding removed
   removed-good e =
       let m = activeOf b - 1 in

@@ -205,7 +205,7 @@ module _ (v v' : View) (s : Same v v') where
         let run = shape .used 0 (omega arith) (shape .one (h .word)) in
         record { low = h .low; high = h .high; slot = omega arith; from = omega arith; to = omega (arith, run .some) }
 
-    same-type : (p : ℕ) → Parent v p → fileType v' p ≡ fileType v p
+    pub same-type : (p : ℕ) → Parent v p → fileType v' p ≡ fileType v p
     unfolding fileType
     same-type p h =
         ap (λ (t : List ℕ). v' .zone (zoneOf (startOf p t 0)) .ztype) (s .table p (h .low) (h .high))

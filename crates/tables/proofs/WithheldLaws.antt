@@ -37,10 +37,10 @@ module _ (v : View) (s : ℕ) (h : StartsBlock v s) where
   start-block = data-block (v .zone (zoneOf s) .ztype) (h .typed)
 
   -- so many blocks of its zone come before it
-  start-at : s % 1024 / blockAt v s * blockAt v s ≡ s % 1024
+  pub start-at : s % 1024 / blockAt v s * blockAt v s ≡ s % 1024
   start-at = omega (arith, div-add-mod' (s % 1024) (blockAt v s), h .start)
 
-  start-few : s % 1024 / blockAt v s < 1024 / blockAt v s
+  pub start-few : s % 1024 / blockAt v s < 1024 / blockAt v s
   start-few = div-lt-iff-lt-mul (start-block .some) .1 (omega (arith, start-block .whole))
 
   -- it ends within the zone

@@ -1,4 +1,4 @@
-use Rattle.allocation.proofs.GrowthLaws.{Adding, adding-layout, adding-none, adding-typed, adding-laying, adding-more, adding-end}
+use Rattle.allocation.proofs.GrowthLaws.{Adding, adding-layout, adding-r3, adding-none, adding-typed, adding-laying, adding-more, adding-end}
 use Prim.Native.Nat.{_-_}
 use borrow.Author.Needs.{needs}
 use Rattle.allocation.proofs.growth.add_some.Statement.{statement}
@@ -17,7 +17,7 @@ add-some-spec =
     Inv-loop
     μ-loop
     (λ c. search adding-none)
-    (λ c κs. (search adding-layout, (search adding-typed, search needs)))
+    (λ c κs. (search adding-layout, (search adding-typed, (adding-r3 _ _ _ _ _ _ _ _ _ (c .before .before .loop .inv), search needs))))
     (λ c κs. search adding-laying)
     (λ c. search needs)
     (λ c. search needs)

@@ -20,7 +20,7 @@ use tables::sizes::ZONE;
 use tables::zone::{ZoneEntry, put_zone, zone_entry};
 
 // A block by its zone, its number in the zone, and the free blocks that the zone has without it.
-#[derive(Drop)]
+#[derive(Clone, Copy)]
 pub struct Found {
     pub zone: Zone,
     pub number: u32,
@@ -28,7 +28,7 @@ pub struct Found {
 }
 
 // A block chosen, and where the search for the next one of its type may begin.
-#[derive(Drop)]
+#[derive(Clone, Copy)]
 pub struct Choice {
     pub block: Found,
     pub from: Found,

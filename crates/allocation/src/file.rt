@@ -37,7 +37,7 @@ fn start_file(
 ) -> Index
     requires provided_some { ProvidedSome p b.old no_pointer counts }
     requires name_len_bound { (length name.now ≤ 24) × (length date.now ≡ 6) × (attribute < 128) }
-    ensures { (result.0 ≡ first_free_of b.old) × (record { books = b.new; cursor = record { tail = no_pointer; table = result } } ≡ started p b.old (record { name = name.entry.now; date = date.now; length = long; attribute = attribute })) }
+    ensures { (result.0 ≡ first_free_of b.old) × (record { books = b.new; cursor = record { tail = no_pointer; table = result } } ≡ started p b.old (record { name = name.now; date = date.now; length = long; attribute = attribute })) }
 {
     let f = put_new_parent(b, p, name, date, long, attribute);
     count_file(b, attribute / SYSTEM % 2, attribute / DIRECTORY % 2, date);
@@ -56,7 +56,7 @@ pub fn create_file(
 ) -> Index
     requires provided_some { ProvidedSome p b.old no_pointer counts }
     requires name_len_bound { (length name.now ≤ 24) × (length date.now ≡ 6) × (attribute < 128) }
-    ensures { (result.0 ≡ first_free_of b.old) × (b.new ≡ created p b.old (record { name = name.entry.now; date = date.now; length = long; attribute = attribute }) counts) }
+    ensures { (result.0 ≡ first_free_of b.old) × (b.new ≡ created p b.old (record { name = name.now; date = date.now; length = long; attribute = attribute }) counts) }
 {
     let f = start_file(b, p, name, date, long, attribute, counts);
     add_all(

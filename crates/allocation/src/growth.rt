@@ -16,7 +16,7 @@ use tables::kinds::{Index, Zone};
 use tables::places::Places;
 
 // Where the file's pointers end, and its last table.
-#[derive(Drop)]
+#[derive(Clone, Copy)]
 pub struct Cursor {
     pub tail: Tail,
     pub table: Index,

@@ -1,4 +1,6 @@
 // The lower part's second half: the choice of blocks, pointers, and the tables of new and growing files.
+#![tactic(auto)]
+
 pub mod choice;
 pub mod file;
 pub mod growth;

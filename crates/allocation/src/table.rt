@@ -79,7 +79,7 @@ pub fn put_new_parent(
     requires layout { Layout p (length b.old) }
     requires head { Head p b.old }
     requires name_len_bound { (length name.now ≤ 24) × (length date.now ≡ 6) × (attribute < 65536) }
-    ensures { (result.0 ≡ first_free_of b.old) × (b.new ≡ put_new_parent p b.old (record { name = name.entry.now; date = date.now; length = long; attribute = attribute })) }
+    ensures { (result.0 ≡ first_free_of b.old) × (b.new ≡ put_new_parent p b.old (record { name = name.now; date = date.now; length = long; attribute = attribute })) }
 {
     let i = take_table(b, p);
     put_named(b, p, i, name);

@@ -6,7 +6,7 @@ use tables::index::Pointer;
 use tables::kinds::Sector;
 
 // The last pointer, how many pointers its table has used, for how many it has room, and the tables taken.
-#[derive(Drop)]
+#[derive(Clone, Copy)]
 pub struct Tail {
     pub last: Pointer,
     pub slot: usize,
@@ -15,7 +15,7 @@ pub struct Tail {
 }
 
 // The tail with a block more.
-#[derive(Drop)]
+#[derive(Clone, Copy)]
 pub enum Pushed {
     // The last pointer is longer.
     Joined(Tail),

@@ -1,4 +1,6 @@
 // The bench cards on books in memory, a line for each step. No block is withheld: the list that goes with each request is empty.
+#![tactic(auto)]
+
 mod card;
 mod curve;
 mod header;

@@ -1,5 +1,7 @@
 // The program that says which rule the card breaks: books from standard input, the lines to standard output.
 // Books of more than 65,536 bytes are refused as 1: one byte more is read, which no number of whole sectors has.
+#![tactic(auto)]
+
 use requests::broken_text::broken_text;
 
 fn main() {

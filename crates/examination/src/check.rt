@@ -26,14 +26,14 @@ use tables::sizes::{ENTRY_LEN, ROUND_UP_LEN, SECTOR, SECTOR_LEN, TABLE, ZONE};
 use tables::{sector0, sector1};
 
 // Where the tables stand, or the first of numbers 1 to 3, or 7 for the withheld list, that applies.
-#[derive(Drop)]
+#[derive(Clone, Copy)]
 pub enum Placing {
     At(Places),
     Refused(u32),
 }
 
 // Lawful books and their places, or the first number that applies.
-#[derive(Drop)]
+#[derive(Clone, Copy)]
 pub enum Checked {
     Fine(Places),
     Refused(u32),

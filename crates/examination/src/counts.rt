@@ -14,7 +14,7 @@ use tables::places::Places;
 use tables::{index, sector1};
 
 // The counts that sector 1 has, made anew.
-#[derive(Drop)]
+#[derive(Clone, Copy)]
 pub struct Counts {
     pub active: u32,
     pub deleted: u32,

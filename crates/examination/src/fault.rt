@@ -5,7 +5,7 @@ ghost use Rattle.examination.specs.Faults.{rule_of, place_kind_of, fault_place, 
 use crate::finding::Finding;
 use tables::kinds::{Index, Sector, Zone};
 
-#[derive(Drop)]
+#[derive(Clone, Copy)]
 pub enum Fault {
     // Every rule holds.
     Nothing,

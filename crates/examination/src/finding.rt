@@ -2,7 +2,7 @@
 ghost use Rattle.std.specs.Prelude.{◌≡◌};
 ghost use Rattle.examination.specs.Findings.{holds_at};
 
-#[derive(Drop)]
+#[derive(Clone, Copy)]
 pub enum Finding {
     // The rule holds at every place.
     Holds,

@@ -1,4 +1,6 @@
 // The examination that every request but format makes first: numbers 1 to 4 and 7 of the withheld list, one function a rule over that rule's definition.
+#![tactic(auto)]
+
 pub mod broken;
 pub mod chains;
 pub mod check;

@@ -12,7 +12,7 @@ use tables::kinds::{Index, Sector};
 use tables::places::Places;
 
 // A sector under a pointer: the table, the pointer's number in it, and the sectors before it under the same pointer.
-#[derive(Drop)]
+#[derive(Clone, Copy)]
 pub struct Spot {
     pub table: Index,
     pub slot: usize,

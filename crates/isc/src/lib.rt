@@ -1,4 +1,6 @@
 // The C interface: each function takes its numbers and slices, calls one request, and hands back the number and the values.
+#![tactic(auto)]
+
 ghost use Rattle.std.specs.Prelude.{◌≡◌, length, take};
 ghost use Rattle.field.specs.Parts.{over};
 ghost use Rattle.tables.specs.Counts.{chosen_types};
@@ -60,7 +62,7 @@ pub extern "C" fn isc_format(
     code: &[u8],
     date: &[u8],
 ) -> u32
-    ensures { Formatted books.old (amount_of zones) (amount_of indexes) (record { application = application.entry.now; volume = volume.now; id = id; owner = owner.now; code = code.now; date = date.now }) result books.new }
+    ensures { Formatted books.old (amount_of zones) (amount_of indexes) (record { application = application.now; volume = volume.now; id = id; owner = owner.now; code = code.now; date = date.now }) result books.new }
 {
     let z = amount_of(zones);
     let n = amount_of(indexes);

@@ -1,5 +1,7 @@
 // The report program: books from standard input, their report to standard output.
 // Books of more than 65,536 bytes are refused as 1: one byte more is read, which no number of whole sectors has.
+#![tactic(auto)]
+
 use requests::report::report;
 
 fn main() {

@@ -1,5 +1,7 @@
 // Reports of a used card, and of cards that are refused: the number is in the text.
 // The card on standard input: Z=4, N=8, S=5, mounted, one plain file of 5,000 bytes at (1024,4) and (2048,1).
+#![tactic(auto)]
+
 use requests::report::report;
 
 fn show(books: &[u8]) {

@@ -2,7 +2,7 @@
 ghost use Rattle.std.specs.Prelude.{◌≡◌};
 ghost use Rattle.requests.specs.Amounts.{amount_of, amount_value};
 
-#[derive(Drop)]
+#[derive(Clone, Copy)]
 pub enum Amount {
     Below,
     Is(u32),

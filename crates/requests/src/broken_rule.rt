@@ -5,7 +5,7 @@ use examination::broken::lowest_fault;
 use examination::check::{Placing, find_tables};
 use examination::fault::Fault;
 
-#[derive(Drop)]
+#[derive(Clone, Copy)]
 pub enum Diagnosis {
     Found(Fault),
     Refused(u32),

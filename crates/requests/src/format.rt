@@ -45,7 +45,7 @@ fn fits(len: usize, zones: Amount, indexes: Amount) -> bool
 
 // Is no text longer than its field, and the date valid? That is asked of any id alike.
 fn writable(application: &[u8], volume: &[u8], owner: &[u8], code: &[u8], date: &[u8]) -> bool
-    ensures { Says result (Writable (record { application = application.entry.now; volume = volume.now; id = 0; owner = owner.now; code = code.now; date = date.now })) }
+    ensures { Says result (Writable (record { application = application.now; volume = volume.now; id = 0; owner = owner.now; code = code.now; date = date.now })) }
 {
     if application.len() > 16 {
         return false;
@@ -73,7 +73,7 @@ fn format_number(
     code: &[u8],
     date: &[u8],
 ) -> u32
-    ensures { Gate (format_tests b.now zones indexes (record { application = application.entry.now; volume = volume.now; id = id; owner = owner.now; code = code.now; date = date.now })) result }
+    ensures { Gate (format_tests b.now zones indexes (record { application = application.now; volume = volume.now; id = id; owner = owner.now; code = code.now; date = date.now })) result }
 {
     if !sized(b) {
         return 1;
@@ -98,7 +98,7 @@ pub fn format(
     code: &[u8],
     date: &[u8],
 ) -> u32
-    ensures { Formatted b.old zones indexes (record { application = application.entry.now; volume = volume.now; id = id; owner = owner.now; code = code.now; date = date.now }) result b.new }
+    ensures { Formatted b.old zones indexes (record { application = application.now; volume = volume.now; id = id; owner = owner.now; code = code.now; date = date.now }) result b.new }
 {
     let n = format_number(
         b,

@@ -1,4 +1,6 @@
 // The upper part: one public module per request, over what the lower part promises; what requests share stands in private modules.
+#![tactic(auto)]
+
 mod active;
 pub mod actual_delete;
 pub mod amount;

@@ -9,7 +9,7 @@ use allocation::size::file_sectors;
 use tables::kinds::{Index, Sector};
 use tables::places::read_places;
 
-#[derive(Drop)]
+#[derive(Clone, Copy)]
 pub enum Located {
     At(Sector),
     Refused(u32),

@@ -39,7 +39,7 @@ pub fn make_file(
     requires good_some { GoodSome b.old (places_of b.old) }
     requires new_file { NewFile name.now kind date.now }
     requires variable_bound { variable ≤ 1 }
-    ensures { Creates [] b.old counts (record { name = name.entry.now; date = date.now; length = long; attribute = attribute_for variable kind }) result b.new }
+    ensures { Creates [] b.old counts (record { name = name.now; date = date.now; length = long; attribute = attribute_for variable kind }) result b.new }
 {
     let p = read_places(b);
     let l = no_pointer();

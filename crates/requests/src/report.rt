@@ -13,7 +13,7 @@ use tables::sector1;
 use tables::sizes::ZONE;
 
 // What the report tells.
-#[derive(Drop)]
+#[derive(Clone, Copy)]
 pub struct Figures {
     pub zones: u32,
     pub sectors: u32,
@@ -29,7 +29,7 @@ pub struct Figures {
 }
 
 // A text by value: its first `length` bytes, then nulls.
-#[derive(Drop)]
+#[derive(Clone, Copy)]
 pub struct Text {
     pub bytes: [u8; 192],
     pub length: usize,

@@ -15,7 +15,7 @@ use tables::sizes::SECTOR_LEN;
 
 // A part of the body: where it begins, and how many bytes it has.
 #[repr(C)]
-#[derive(Drop)]
+#[derive(Clone, Copy)]
 pub struct Part {
     pub at: usize,
     pub len: usize,

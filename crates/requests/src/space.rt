@@ -11,7 +11,7 @@ use examination::check::Checked;
 use tables::places::Places;
 use tables::sizes::ZONE;
 
-#[derive(Drop)]
+#[derive(Clone, Copy)]
 pub enum Space {
     Is(u32, u32),
     Refused(u32),

@@ -7,7 +7,7 @@ use crate::report::Text;
 use field::parts::copy;
 
 // Ten bytes, the digits of a number at their end, from `at` on.
-#[derive(Drop)]
+#[derive(Clone, Copy)]
 pub struct Digits {
     pub bytes: [u8; 10],
     pub at: usize,

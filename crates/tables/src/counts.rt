@@ -7,14 +7,14 @@ use crate::blocks::block_sectors;
 use crate::sizes::SECTOR;
 
 // The zone types that a flag byte chooses, as the sum of their weights, or a flag byte that is not allowed.
-#[derive(Drop)]
+#[derive(Clone, Copy)]
 pub enum Chosen {
     Types(u32),
     Bad,
 }
 
 // A type's count, and the bytes that are left to the smaller types.
-#[derive(Drop)]
+#[derive(Clone, Copy)]
 struct Share {
     count: u32,
     rest: u32,

@@ -9,14 +9,14 @@ use crate::kinds::Index;
 use crate::places::Places;
 
 // Attribute weight 16: the file grows.
-#[derive(Drop)]
+#[derive(Clone, Copy)]
 pub enum Size {
     Fixed,
     Variable,
 }
 
 // Broken: it begins with none of the three words that rule R4 allows.
-#[derive(Drop)]
+#[derive(Clone, Copy)]
 pub enum Kind {
     Free,
     Parent(Size),
@@ -24,7 +24,7 @@ pub enum Kind {
     Broken,
 }
 
-#[derive(Drop)]
+#[derive(Clone, Copy)]
 pub struct Entry {
     pub kind: Kind,
     pub attribute: u32,

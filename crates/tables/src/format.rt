@@ -90,7 +90,7 @@ pub fn write_format(
     requires formattable { Formattable (length b.old) zones indexes }
     requires in_bounds { (5120 ≤ length b.old) × (length b.old ≤ 1048576) }
     requires writable { Writable (record { application = application.now; volume = volume.now; id = id; owner = owner.now; code = code.now; date = date.now }) }
-    ensures { b.new ≡ formatted (length b.old) zones indexes (record { application = application.entry.now; volume = volume.now; id = id; owner = owner.now; code = code.now; date = date.now }) }
+    ensures { b.new ≡ formatted (length b.old) zones indexes (record { application = application.now; volume = volume.now; id = id; owner = owner.now; code = code.now; date = date.now }) }
 {
     zero_books(b);
     write_sector0(b, zones, application, volume, id, owner, code, date);

@@ -37,7 +37,7 @@ fn write_label(
 )
     requires in_bounds { 2048 ≤ length b.old }
     requires writable { Writable (record { application = application.now; volume = volume.now; id = id; owner = owner.now; code = code.now; date = date.now }) }
-    ensures { b.new ≡ put_label b.old (record { application = application.entry.now; volume = volume.now; id = id; owner = owner.now; code = code.now; date = date.now }) }
+    ensures { b.new ≡ put_label b.old (record { application = application.now; volume = volume.now; id = id; owner = owner.now; code = code.now; date = date.now }) }
 {
     write_names(b, application, volume, id);
     write_owner(b, owner, code, date);
@@ -90,7 +90,7 @@ pub fn write_sector0(
     requires in_bounds { 2048 ≤ length b.old }
     requires zones_bound { zones ≤ 256 }
     requires writable { Writable (record { application = application.now; volume = volume.now; id = id; owner = owner.now; code = code.now; date = date.now }) }
-    ensures { b.new ≡ put_starts (put_sizes (put_label b.old (record { application = application.entry.now; volume = volume.now; id = id; owner = owner.now; code = code.now; date = date.now })) zones) zones }
+    ensures { b.new ≡ put_starts (put_sizes (put_label b.old (record { application = application.now; volume = volume.now; id = id; owner = owner.now; code = code.now; date = date.now })) zones) zones }
 {
     write_label(b, application, volume, id, owner, code, date);
     write_limits(b, zones);

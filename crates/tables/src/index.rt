@@ -37,7 +37,7 @@ pub const DIRECTORY: u32 = 32;
 pub const SYSTEM: u32 = 64;
 
 // A run of sectors: the first, and how many.
-#[derive(Drop)]
+#[derive(Clone, Copy)]
 pub struct Pointer {
     pub start: Sector,
     pub count: u32,

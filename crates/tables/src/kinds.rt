@@ -5,15 +5,15 @@ ghost use Rattle.tables.specs.Kinds.{zone_of, first_of};
 use crate::sizes::ZONE;
 
 // A sector of the volume, from 0 on.
-#[derive(Drop)]
+#[derive(Clone, Copy)]
 pub struct Sector(pub u32);
 
 // A zone of 1,024 sectors, from 1 on.
-#[derive(Drop)]
+#[derive(Clone, Copy)]
 pub struct Zone(pub u32);
 
 // An index table, from 1 on; 0 is none.
-#[derive(Drop)]
+#[derive(Clone, Copy)]
 pub struct Index(pub u32);
 
 // The zone that holds a sector.

@@ -1,4 +1,6 @@
 // The lower part: the volume's tables, read and written. Knows bytes only through the crate field.
+#![tactic(auto)]
+
 pub mod blocks;
 pub mod counts;
 pub mod date;

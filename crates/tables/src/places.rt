@@ -6,7 +6,7 @@ use crate::sizes::SECTOR_LEN;
 use crate::{sector0, sector1};
 
 // Z, N, and the bytes at which the zone table, the sector table and the index tables begin.
-#[derive(Drop)]
+#[derive(Clone, Copy)]
 pub struct Places {
     pub zones: u32,
     pub indexes: u32,

@@ -9,7 +9,7 @@ use crate::sizes::ENTRY_LEN;
 use field::numbers::{get_u16, put_u16};
 
 // Type, free blocks, third field.
-#[derive(Drop)]
+#[derive(Clone, Copy)]
 pub struct ZoneEntry {
     pub ztype: u32,
     pub free: u32,

@@ -1,0 +1,74 @@
+use Rattle.allocation.proofs.FindLaws.{search_hit, search_end}
+use Rattle.allocation.proofs.NextBlockLaws.{clear_yes, clear_none, clear_more, block_inside, passed_some, passed_in}
+use Rattle.tables.specs.Rules.R1.{ceil}
+use Rattle.tables.specs.Views.{view_of}
+use native.Mathlib.Omega.{arith}
+use Prim.Native.Nat.{◌+◌, ◌-◌, ◌*◌, ◌≤◌}
+use mathlib.Core.Path.{refl}
+use borrow.Author.Rules.{rules}
+use Rattle.allocation.proofs.choice.clear_from.Goals as goal
+
+inside : (c : tie.In-loop invariant-loop decreases-loop) → let k = c.loop-k.k in let size = c.block_sectors-size.result in k * size + size ≤ 1024
+inside c = block_inside _ _ _ c.block_sectors-size.ensures.0 c.block_sectors-size.ensures.1 (omega arith)
+
+-- the block after those that are passed over
+
+over : (c : tie.Else1 invariant-loop decreases-loop) → let k = c.loop-k.k in let s = c in
+    k + ceil c.used_ahead-used.result s.block_sectors-size.result ≤ c.zone_blocks-last.result
+over c =
+    let s = c in
+    passed_in _ _ _ _ _ s.block_sectors-size.ensures.0 s.block_sectors-size.ensures.1 c.zone_blocks-last.ensures (omega arith)
+    (omega (arith, inside c, c.used_ahead-used.ensures.few))
+
+pub loop-k-init : goal.loop-k-init
+loop-k-init c = (search rules, omega arith, λ j l h. absurd (omega arith))
+
+pub overflow_mul-at : goal.overflow_mul-at
+overflow_mul-at c = omega (arith, inside c)
+
+pub overflow_add-first : goal.overflow_add-first
+overflow_add-first c = omega (arith, inside c)
+
+pub overflow_sub-at : goal.overflow_sub-at
+overflow_sub-at c = omega (arith, inside c)
+
+pub used_ahead-used-requires : goal.used_ahead-used-requires
+used_ahead-used-requires c = (search rules, (omega (arith, inside c), omega (arith, inside c)))
+
+pub returns-then-used-eq0 : goal.returns-then-used-eq0
+returns-then-used-eq0 c =
+    let l = c.loop-k in
+    let s = c in
+    let a = s.args in
+    let v = view_of a.p a.b.now in
+    let none = clear_none v a.t a.z.0 _ _ s.first_sector-first.ensures s.block_sectors-size.ensures.0 a.from l.k l.invariant.2 in
+    search_hit _ a.from _ l.k l.invariant.0 (omega arith) none (omega arith)
+    (clear_yes v a.t a.z.0 _ _ s.first_sector-first.ensures s.block_sectors-size.ensures.0 l.k _ refl (c.used_ahead-used.ensures.clear c.if-used-eq0.true))
+
+pub overflow_add-k : goal.overflow_add-k
+overflow_add-k c = omega (arith, inside c, c.used_ahead-used.ensures.few)
+
+pub overflow_add-k-in-loop-k : goal.overflow_add-k-in-loop-k
+overflow_add-k-in-loop-k c = omega (arith, over c)
+
+pub loop-k-smaller : goal.loop-k-smaller
+loop-k-smaller c = omega (arith, passed_some _ _ c.block_sectors-size.ensures.1.some c.if-used-eq0.false, over c)
+
+pub loop-k-preserved : goal.loop-k-preserved
+loop-k-preserved c =
+    let l = c.loop-k in
+    let s = c in
+    let a = s.args in (
+      omega arith,
+      over c,
+      clear_more (view_of a.p a.b.now) a.t a.z.0 _ _ s.first_sector-first.ensures s.block_sectors-size.ensures.0 a.from l.k l.invariant.2
+          _ s.block_sectors-size.ensures.1.some c.used_ahead-used.ensures.set,
+    )
+
+pub returns : goal.returns
+returns c =
+    let l = c.loop-k in
+    let s = c in
+    let a = s.args in
+    let none = clear_none (view_of a.p a.b.now) a.t a.z.0 _ _ s.first_sector-first.ensures s.block_sectors-size.ensures.0 a.from l.k l.invariant.2 in
+    search_end _ a.from _ l.k l.invariant.0 (omega arith) none (omega arith)

@@ -1,0 +1,21 @@
+use Rattle.examination.proofs.MeetingLaws.{child_other, child_none, child_twice, child_strange, child_lawful}
+use Rattle.examination.proofs.chains.child_valid.Goals as goal
+
+pub returns-then-not-child_number : goal.returns-then-not-child_number
+returns-then-not-child_number c = search child_other
+
+pub returns-then-of-eq0 : goal.returns-then-of-eq0
+returns-then-of-eq0 c = search child_none
+
+pub returns-then-of-eq-TWICE : goal.returns-then-of-eq-TWICE
+returns-then-of-eq-TWICE c = search child_twice
+
+pub returns-then-parent-of : goal.returns-then-parent-of
+returns-then-parent-of c = search child_strange
+
+pub returns : goal.returns
+returns c =
+    let m = c in
+    let k = m in
+    child_lawful _ _ _ k.requires.met_up_to k.child_number.result k.child_number.ensures m.if-not-child_number.false-raw _ m.table-t.ensures.0 _ c.parent.ensures
+    m.if-of-eq0.false c.if-of-eq-TWICE.false c.if-parent-of.false c.some_used.result c.some_used.ensures

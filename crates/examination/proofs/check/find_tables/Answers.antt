@@ -1,0 +1,25 @@
+use Rattle.examination.proofs.CheckLaws.{found_at, found_unplaced, unplaced_listed, refused_7, list_fine}
+use Rattle.examination.proofs.check.find_tables.Goals as goal
+
+pub withholds-requires : goal.withholds-requires
+withholds-requires c =
+    let f = c in
+    (found_at f.args.b.now f.find_places-found.result f.find_places-found.ensures _ c.in-At.is).layout
+
+pub returns-then-not-withholds : goal.returns-then-not-withholds
+returns-then-not-withholds c =
+    let f = c in
+    let b = f.args.b.now in
+    refused_7 b _ _ (found_at b f.find_places-found.result f.find_places-found.ensures _ c.in-At.is) c.withholds.result c.withholds.ensures c.if-not-withholds.true-raw
+
+pub returns-in-Refused : goal.returns-in-Refused
+returns-in-Refused c =
+    let f = c in
+    let b = f.args.b.now in
+    unplaced_listed b _ _ (found_unplaced b f.find_places-found.result f.find_places-found.ensures _ c.in-Refused.is)
+
+pub returns-else-not-withholds : goal.returns-else-not-withholds
+returns-else-not-withholds c =
+    let f = c in
+    let b = f.args.b.now in
+    list_fine b _ _ (found_at b f.find_places-found.result f.find_places-found.ensures _ c.in-At.is) c.withholds.result c.withholds.ensures c.if-not-withholds.false-raw

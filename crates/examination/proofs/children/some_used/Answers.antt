@@ -1,0 +1,21 @@
+use native.Mathlib.Omega.{arith}
+use Prim.Native.Nat.{◌-◌}
+use Rattle.examination.proofs.ChildLaws.{some_stop, some_end, some_more}
+use Rattle.marks.proofs.MarkLaws.{slot_in}
+use borrow.Author.Rules.{rules}
+use Rattle.examination.proofs.children.some_used.Goals as goal
+
+pub loop-j-init : goal.loop-j-init
+loop-j-init c = (search rules, λ k l. absurd (omega arith))
+
+pub pointer_at-requires : goal.pointer_at-requires
+pointer_at-requires c = record { t_len = search rules; at_bound = search slot_in }
+
+pub returns-then-not-unused : goal.returns-then-not-unused
+returns-then-not-unused c = search some_stop
+
+pub loop-j-preserved : goal.loop-j-preserved
+loop-j-preserved c = (search rules, search some_more)
+
+pub returns : goal.returns
+returns c = search some_end

@@ -1,0 +1,17 @@
+use native.Mathlib.Omega.{arith}
+use Prim.Native.Nat.{◌-◌}
+use Rattle.examination.proofs.CountedLaws.{counted_none, counted_more, counted_few, counted_all}
+use borrow.Author.Rules.{rules}
+use Rattle.examination.proofs.counts.count_tables.Goals as goal
+
+pub loop-k-init : goal.loop-k-init
+loop-k-init c = (search rules, search counted_none)
+
+pub count_table-c-requires : goal.count_table-c-requires
+count_table-c-requires c = (counted_few _ _ _ c.loop-k.invariant.1 (omega arith), search rules)
+
+pub loop-k-preserved : goal.loop-k-preserved
+loop-k-preserved c = (search rules, search counted_more)
+
+pub returns : goal.returns
+returns c = search counted_all

@@ -1,0 +1,22 @@
+use Prim.Native.Nat.{◌-◌}
+use Rattle.examination.proofs.LimitLaws.{pointers_none, pointers_more, pointers_end}
+use Rattle.marks.proofs.MarkLaws.{slot_in, pointer_room}
+use borrow.Author.Rules.{rules}
+use Rattle.examination.proofs.owned.pointers_below.Goals as goal
+
+pub loop-j-init : goal.loop-j-init
+loop-j-init c = (search rules, search pointers_none)
+
+pub pointer_at-q-requires : goal.pointer_at-q-requires
+pointer_at-q-requires c = (search rules, search slot_in)
+
+pub mark_below-low-requires : goal.mark_below-low-requires
+mark_below-low-requires c = (search rules, search pointer_room)
+
+pub loop-j-preserved : goal.loop-j-preserved
+loop-j-preserved c =
+    let q = c in
+    (search rules, pointers_more _ _ _ _ _ _ _ q.loop-j.invariant.1 q.pointer_at-q.result _ _ q.pointer_at-q.ensures.0 c.mark_below-low.ensures)
+
+pub returns : goal.returns
+returns c = search pointers_end

@@ -1,0 +1,21 @@
+use native.Mathlib.Omega.{arith}
+use Rattle.examination.proofs.SurveyLaws.{fits_other, fits_word, fits_says}
+use borrow.Author.Rules.{rules}
+use Rattle.examination.proofs.types.table_fits.Goals as goal
+
+pub returns-then-not-is_variable : goal.returns-then-not-is_variable
+returns-then-not-is_variable c = search fits_other
+
+pub file_type-ty-requires : goal.file_type-ty-requires
+file_type-ty-requires c = (search rules, (c.requires.r6, (search rules, search fits_word)))
+
+pub table_type-requires : goal.table_type-requires
+table_type-requires c = record { layout = search rules; t_len = search rules; shape = rw c.table.ensures.0 (c.requires.r6 c.args.i.0 (omega arith) (omega arith)) }
+
+pub returns : goal.returns
+returns c =
+    let k = c in
+    let d = k in
+    let a = d.args in
+    fits_says a.p a.b.now a.i.0 a.f.0 d.decode.result k.is_variable.result d.decode.ensures k.is_variable.ensures _ _ c.table_type.result
+    k.if-not-is_variable.false-raw (omega arith) (omega arith) c.file_type-ty.ensures c.table.ensures.0 c.table_type.ensures

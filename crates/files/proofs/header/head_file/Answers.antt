@@ -1,0 +1,44 @@
+use Prim.Native.Nat.{◌+◌, ◌≤◌, ◌<◌}
+use native.Mathlib.Omega.{arith}
+use Rattle.files.proofs.HeadedLaws.{head_proper, head_countable, head_done}
+use borrow.Author.Rules.{rules}
+use Rattle.files.proofs.header.head_file.Goals as goal
+
+-- what is asked of the place
+
+proper : (c : tie.Start) → let a = c.args in (2 ≤ a.k.zone.0) × (a.k.zone.0 < a.p.zones) × (a.k.number + a.n ≤ 1024) × (a.k.free < 65536)
+proper c =
+    let a = c.args in
+    let q = c.requires.1.1.1 in
+    head_proper a.p a.b-1.now c.requires.layout c.requires.lawful_some.1 a.f.0 c.requires.parent a.n q.0.0 q.0.1 a.k q.1.0 q.1.1
+
+pub put_run-requires : goal.put_run-requires
+put_run-requires c = record { layout = search rules; le_zone = proper c }
+
+pub run_start-requires : goal.run_start-requires
+run_start-requires c =
+    let s = c in
+    let h = proper s in
+    (omega (arith, h.0), omega (arith, h.1, s.requires.layout), omega (arith, h.2))
+
+pub free_run-requires : goal.free_run-requires
+free_run-requires c = let r = c in
+    let x = r in
+    let o = x in
+    let s = o in
+    let a = s.args in
+    let q = s.requires.1.1.1 in record { layout = search rules; recountable = head_countable a.p a.b-1.now s.requires.layout s.requires.lawful_some.1 a.f.0 s.requires.parent a.n q.0.0 q.0.1 a.k q.1.0 q.1.1
+          _ _ _ r.run_start.result o.pointer_at-old.result o.table.ensures.0 o.pointer_at-old.ensures.0 x.put_run.ensures r.run_start.ensures c.put_pointer.ensures }
+
+pub returns : goal.returns
+returns c =
+    let y = c in
+    let r = y in
+    let x = r in
+    let o = x in
+    let s = o in
+    let a = s.args in
+    let q = s.requires.1.1.1 in
+    head_done a.p a.b-1.now s.requires.layout s.requires.lawful_some.1 a.f.0 s.requires.parent a.n q.0.0 q.0.1 a.k q.1.0 q.1.1
+    _ _ _ r.run_start.result o.pointer_at-old.result o.table.ensures.0 o.pointer_at-old.ensures.0 x.put_run.ensures r.run_start.ensures y.put_pointer.ensures
+    _ c.free_run.ensures

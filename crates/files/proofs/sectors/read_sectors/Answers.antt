@@ -1,0 +1,84 @@
+use mathlib.Core.Path.{refl, ◌∙◌}
+use Prim.Native.Nat.{◌-◌, ◌*◌}
+use native.Mathlib.Omega.{arith}
+use lib.ListN.{length-take, length-drop}
+use Rattle.tables.specs.Views.{view_of}
+use Rattle.files.specs.Asked.{OnSector}
+use Rattle.files.specs.Moves.{fetched}
+use Rattle.files.proofs.SectorLaws.{moving_none, moving_here, moving_more, moving_end, read_more}
+use Rattle.files.proofs.sectors.read_sectors.Goals as goal
+
+-- the turn's spot is a sector
+
+here : (c : tie.In-loop invariant-loop decreases-loop) → let a = c.args in OnSector (view_of a.p a.b.now) c.loop-i.c
+here c =
+    let s = c in
+    moving_here _ _ s.requires.layout s.requires.lawful_some.1 s.args.f.0 _ _ _ _ s.requires.movable _ _ _ c.seek-c.ensures _ _ _ c.loop-i.invariant c.loop-i-test.true
+
+pub seek-c-requires : goal.seek-c-requires
+seek-c-requires c = let s = c in (s.requires.layout, (s.requires.lawful_some, (s.requires.movable.parent, s.requires.movable.some)))
+
+pub loop-i-init : goal.loop-i-init
+unfolding fetched
+loop-i-init c = moving_none _ _ _ _ _ _ (λ f. refl)
+
+pub spot_place-a-requires : goal.spot_place-a-requires
+spot_place-a-requires c = (c.requires.layout, here c)
+
+pub overflow_add-e : goal.overflow_add-e
+overflow_add-e c = omega arith
+
+pub overflow_cast-from : goal.overflow_cast-from
+overflow_cast-from c = omega arith
+
+pub overflow_mul-from : goal.overflow_mul-from
+overflow_mul-from c = omega arith
+
+pub overflow_add-to : goal.overflow_add-to
+overflow_add-to c = omega arith
+
+pub slice_bounds-move_sector-count : goal.slice_bounds-move_sector-count
+slice_bounds-move_sector-count c = omega arith
+
+pub slice_bounds-move_sector-start : goal.slice_bounds-move_sector-start
+slice_bounds-move_sector-start c = omega arith
+
+pub slice_bounds-move_sector-end : goal.slice_bounds-move_sector-end
+slice_bounds-move_sector-end c = omega arith
+
+pub slice_bounds-move_sector-count-in-loop-i : goal.slice_bounds-move_sector-count-in-loop-i
+slice_bounds-move_sector-count-in-loop-i c = omega arith
+
+pub slice_bounds-move_sector-start-in-loop-i : goal.slice_bounds-move_sector-start-in-loop-i
+slice_bounds-move_sector-start-in-loop-i c = omega arith
+
+pub slice_bounds-move_sector-end-in-loop-i : goal.slice_bounds-move_sector-end-in-loop-i
+slice_bounds-move_sector-end-in-loop-i c = omega arith
+
+pub move_sector-requires : goal.move_sector-requires
+move_sector-requires c = (simp (length-take, length-drop) (omega arith), simp (length-take, length-drop) (omega arith))
+
+pub onward-c-requires : goal.onward-c-requires
+onward-c-requires c = (c.requires.layout, here c)
+
+pub overflow_add-i : goal.overflow_add-i
+overflow_add-i c = omega arith
+
+pub loop-i-smaller : goal.loop-i-smaller
+loop-i-smaller c = omega arith
+
+pub loop-i-preserved : goal.loop-i-preserved
+loop-i-preserved c =
+    let t = c in
+    let l = t.loop-i in
+    let w = c.move_sector in
+    let s = t in
+    moving_more _ _ _ _ _ _ _ _ _ l.invariant t.loop-i-test.true _ c.onward-c.ensures (1024 * l.i) w.new.0 (omega (arith, t.spot_place-a.ensures.1, s.requires.movable.body', s.requires.movable.buffer, l.invariant.len, t.loop-i-test.true))
+    (w.auto.0 ∙ simp (length-take, length-drop) (omega arith))
+    (λ f at. read_more _ _ _ _ _ _ _ at t.spot_place-a.ensures.0 _ _ _ w.ensures)
+
+pub shape_of-out : goal.shape_of-out
+shape_of-out c = omega arith
+
+pub returns : goal.returns
+returns c = moving_end _ _ _ _ _ _ _ _ _ c.loop-i.invariant c.loop-i-test.false _ c.seek-c.ensures

@@ -1,0 +1,39 @@
+use Rattle.field.proofs.Tests.{passed}
+use Rattle.tables.specs.Blocks.{ZoneType}
+use Rattle.files.proofs.RecountLaws.{zone_other, zone_same, zone_more, zone_small}
+use native.Mathlib.Omega.{arith}
+use borrow.Author.Rules.{rules}
+use Rattle.files.proofs.zones.recount_zone.Goals as goal
+
+-- past the test the entry's type is one that a zone may have
+
+typed : (c : tie.Else1) → ZoneType c.zone_entry-e.result.ztype
+typed c = passed c.is_zone_type.result c.is_zone_type.ensures c.if-not-is_zone_type.false
+
+pub returns-then-not-is_zone_type : goal.returns-then-not-is_zone_type
+returns-then-not-is_zone_type c =
+    let z = c.is_zone_type in
+    let e = c.zone_entry-e in
+    zone_other _ _ _ e.result e.ensures z.result z.ensures c.if-not-is_zone_type.true-raw
+
+pub clear_blocks-n-requires : goal.clear_blocks-n-requires
+clear_blocks-n-requires c = (search rules, (search rules, typed c))
+
+pub returns-then-n-e : goal.returns-then-n-e
+returns-then-n-e c = search zone_same
+
+pub recounted-x-requires : goal.recounted-x-requires
+recounted-x-requires c = (typed c, search rules)
+
+pub put_zone-requires : goal.put_zone-requires
+put_zone-requires c = let k = c in
+    let i = k in
+    let e = i in
+    let s = e in
+    let a = s.args in
+    let small =
+    zone_small a.p a.b-1.now a.z.0 e.zone_entry-e.result e.zone_entry-e.ensures (λ j. omega (arith, s.slice_known-1.given j)) _ (typed i)
+    (omega (arith, k.clear_blocks-n.ensures.0, c.if-n-e.false)) _ c.recounted-x.ensures in record { layout = search rules; le_z = search rules; t_bound = small }
+
+pub returns : goal.returns
+returns c = search zone_more

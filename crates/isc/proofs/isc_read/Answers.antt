@@ -1,0 +1,20 @@
+use Rattle.requests.specs.Amounts.{amount_of}
+use Rattle.requests.specs.Read.{ReadOut}
+use mir.Facts.{to_z-of_z}
+use mathlib.Core.Path.{◌≡◌, ap, ◌∙◌}
+use Rattle.isc.specs.Border.{asked}
+use Rattle.isc.proofs.BorderLaws.{answer_out, read_border}
+use Rattle.isc.proofs.isc_read.Goals as goal
+
+pub returns : goal.returns
+returns c =
+    let a = c in
+    let e₁ : c.amount_of-at.result ≡ amount_of a.args.position = c.amount_of-at.ensures ∙ ap amount_of (to_z-of_z a.ranges.position) in
+    let e₂ : c.amount_of-long.result ≡ amount_of a.args.length = c.amount_of-long.ensures ∙ ap amount_of (to_z-of_z a.ranges.length) in
+    answer_out
+    (λ r. ReadOut a.args.books.now a.args.withheld.now a.args.body.now a.args.id (amount_of a.args.position) (amount_of a.args.length) (asked a.args.exchange) a.args.out-1.now r _)
+    c.read-answer.result
+    _
+    _
+    (read_border _ _ _ _ _ a.args.id a.args.position a.args.length _ _ _ _ e₁ e₂ c.read-answer.ensures)
+    c.hand_back.ensures

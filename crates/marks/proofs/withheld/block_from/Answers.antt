@@ -1,0 +1,11 @@
+use Rattle.marks.proofs.WithheldListLaws.{block_typed, block_is}
+use Rattle.marks.proofs.withheld.block_from.Goals as goal
+
+pub block_sectors-requires : goal.block_sectors-requires
+block_sectors-requires c = search block_typed
+
+pub returns : goal.returns
+returns c =
+    let s = c in
+    block_is s.args.p s.args.b.now s.args.s.0 _ c.zone_of.ensures c.zone_entry-t.result c.zone_entry-t.ensures s.requires.starts_block s.requires.layout
+    c.block_sectors.result c.block_sectors.ensures.0

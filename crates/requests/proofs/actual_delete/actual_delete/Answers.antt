@@ -1,0 +1,22 @@
+use Rattle.requests.proofs.StateLaws.{recover_room, recover_marks}
+use Rattle.requests.proofs.DeleteLaws.{delete_refused, delete_asks, delete_done}
+use Rattle.requests.proofs.actual_delete.actual_delete.Goals as goal
+
+pub returns-then-n-ne0 : goal.returns-then-n-ne0
+returns-then-n-ne0 c = search delete_refused
+
+pub read_places-p-requires : goal.read_places-p-requires
+read_places-p-requires c = search recover_room
+
+pub mark_header-requires : goal.mark_header-requires
+mark_header-requires c =
+    let p = c in
+    recover_marks _ _ _ _ _ _ p.recover_number-n.ensures p.if-n-ne0.false _ p.read_places-p.ensures
+
+pub release_file-requires : goal.release_file-requires
+release_file-requires c =
+    let p = c in
+    delete_asks _ _ _ _ _ _ p.recover_number-n.ensures p.if-n-ne0.false _ p.read_places-p.ensures
+
+pub returns : goal.returns
+returns c = search delete_done

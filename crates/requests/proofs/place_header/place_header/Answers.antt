@@ -1,0 +1,47 @@
+use Rattle.requests.proofs.PlaceHeaderLaws.{placing_refused, placed_few, placed_room, placing_layout, placing_start, placing_low, placing_inside, placing_marks, placing_asks, placing_done}
+use borrow.Author.Rules.{rules}
+use Rattle.requests.proofs.place_header.place_header.Goals as goal
+
+pub returns-then-r-ne0 : goal.returns-then-r-ne0
+returns-then-r-ne0 c = search placing_refused
+
+pub read_places-p-requires : goal.read_places-p-requires
+read_places-p-requires c = search placed_room
+
+pub header_sectors-n-requires : goal.header_sectors-n-requires
+header_sectors-n-requires c = search placed_few
+
+pub header_place-k-requires : goal.header_place-k-requires
+header_place-k-requires c = (search placing_layout, search rules)
+
+pub run_start-requires : goal.run_start-requires
+run_start-requires c =
+    let k = c in
+    let p = k in
+    placing_start _ _ _ _ _ _ _ p.place_header_number-r.ensures p.if-r-ne0.false _ p.read_places-p.ensures _ k.header_sectors-n.ensures.0 _
+    k.header_place-k.ensures
+
+pub body_place-requires : goal.body_place-requires
+body_place-requires c = search placing_low
+
+pub lay_header-requires : goal.lay_header-requires
+lay_header-requires c = let k = c in
+    let p = k in
+    let inside = placing_inside _ _ _ _ _ _ _ p.place_header_number-r.ensures p.if-r-ne0.false _ p.read_places-p.ensures _
+    k.header_sectors-n.ensures.0 _ k.header_place-k.ensures _ c.run_start.ensures _ c.body_place.ensures in record { bytes_in_bounds = inside; bytes_len_bound = search placed_few }
+
+pub mark_header-requires : goal.mark_header-requires
+mark_header-requires c =
+    let l = c in
+    let p = l in
+    placing_marks _ _ _ _ _ _ _ p.place_header_number-r.ensures p.if-r-ne0.false _ p.read_places-p.ensures l.lay_header.new.0 l.lay_header.auto.0
+
+pub put_headed-requires : goal.put_headed-requires
+put_headed-requires c =
+    let k = c in
+    let p = k in
+    placing_asks _ _ _ _ _ _ _ p.place_header_number-r.ensures p.if-r-ne0.false _ p.read_places-p.ensures _ k.header_sectors-n.ensures.0 _
+    k.header_place-k.ensures
+
+pub returns : goal.returns
+returns c = search placing_done

@@ -1,0 +1,21 @@
+use Rattle.requests.proofs.StateLaws.{recover_refused, recover_room, recover_marks, recover_asks, recover_done}
+use Rattle.requests.proofs.recover.recover.Goals as goal
+
+pub returns-then-n-ne0 : goal.returns-then-n-ne0
+returns-then-n-ne0 c = search recover_refused
+
+pub read_places-p-requires : goal.read_places-p-requires
+read_places-p-requires c = search recover_room
+
+pub mark_header-requires : goal.mark_header-requires
+mark_header-requires c =
+    let p = c in
+    recover_marks _ _ _ _ _ _ p.recover_number-n.ensures p.if-n-ne0.false _ p.read_places-p.ensures
+
+pub restore-requires : goal.restore-requires
+restore-requires c =
+    let p = c in
+    recover_asks _ _ _ _ _ _ p.recover_number-n.ensures p.if-n-ne0.false _ p.read_places-p.ensures
+
+pub returns : goal.returns
+returns c = search recover_done

@@ -1,0 +1,11 @@
+use Rattle.requests.proofs.LocateLaws.{kth_on, kth_found}
+use borrow.Author.Rules.{rules}
+use Rattle.requests.proofs.sector.kth_sector.Goals as goal
+
+pub sector_of-requires : goal.sector_of-requires
+sector_of-requires c = record { layout = search rules; on_sector = search kth_on }
+
+pub returns : goal.returns
+returns c =
+    let q = c.requires in
+    kth_found _ _ _ _ q.0.1 q.1.0 q.1.1 _ c.seek.ensures _ c.sector_of.ensures

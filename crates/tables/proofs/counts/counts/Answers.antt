@@ -1,0 +1,22 @@
+use Rattle.tables.proofs.CountsLaws.{counts_more, counts_end, rest_le}
+use Rattle.tables.specs.Counts.{counts_of}
+use lib.ListN.{length, length-set}
+use native.Mathlib.Omega.{arith}
+use mathlib.Core.Path.{refl}
+use Prim.Native.Nat.{◌-◌}
+use Rattle.tables.proofs.counts.counts.Goals as goal
+
+pub loop-i-init : goal.loop-i-init
+unfolding counts_of
+loop-i-init c = (omega arith, omega arith, refl, refl)
+
+pub loop-i-preserved : goal.loop-i-preserved
+loop-i-preserved c =
+    let at = c in
+    let s = c.share_of-s.ensures in
+    (omega arith, omega (arith, rest_le at.args.flag (8 - at.loop-i.i) at.loop-i.rest, s.passed), simp length-set (omega arith), search counts_more)
+
+pub returns : goal.returns
+returns c =
+    let at = c in
+    counts_end at.args.flag at.loop-i.rest at.loop-i.i at.loop-i.c _ (omega arith) (omega arith) at.loop-i.invariant.3

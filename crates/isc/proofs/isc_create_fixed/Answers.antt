@@ -12,7 +12,7 @@ returns c =
     let e₁ : c.amount_of.result ≡ amount_of a.args.size = c.amount_of.ensures ∙ ap amount_of (to_z-of_z a.ranges.size) in
     let e₂ : c.chosen_types.result ≡ chosen_types a.args.flag = c.chosen_types.ensures ∙ ap chosen_types (to_z-of_z a.ranges.flag) in
     create_out
-    (λ r. CreatedFixed a.args.books-1.now a.args.withheld.now a.args.name.now (amount_of a.args.size) (chosen_types a.args.flag) a.args.kind a.args.date.now r _)
+    (λ r. CreatedFixed a.args.books.now a.args.withheld.now a.args.name.now (amount_of a.args.size) (chosen_types a.args.flag) a.args.kind a.args.date.now r _)
     c.create_fixed-made.result
     _
     _

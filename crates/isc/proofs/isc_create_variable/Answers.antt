@@ -10,7 +10,7 @@ returns c =
     let a = c in
     let e : c.amount_of.result ≡ amount_of a.args.cell = c.amount_of.ensures ∙ ap amount_of (to_z-of_z a.ranges.cell) in
     create_out
-    (λ r. CreatedVariable a.args.books-1.now a.args.withheld.now a.args.name.now (amount_of a.args.cell) a.args.kind a.args.date.now r _)
+    (λ r. CreatedVariable a.args.books.now a.args.withheld.now a.args.name.now (amount_of a.args.cell) a.args.kind a.args.date.now r _)
     c.create_variable-made.result
     _
     _

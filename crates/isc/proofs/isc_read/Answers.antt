@@ -12,7 +12,7 @@ returns c =
     let e₁ : c.amount_of-at.result ≡ amount_of a.args.position = c.amount_of-at.ensures ∙ ap amount_of (to_z-of_z a.ranges.position) in
     let e₂ : c.amount_of-long.result ≡ amount_of a.args.length = c.amount_of-long.ensures ∙ ap amount_of (to_z-of_z a.ranges.length) in
     answer_out
-    (λ r. ReadOut a.args.books.now a.args.withheld.now a.args.body.now a.args.id (amount_of a.args.position) (amount_of a.args.length) (asked a.args.exchange) a.args.out-1.now r _)
+    (λ r. ReadOut a.args.books.now a.args.withheld.now a.args.body.now a.args.id (amount_of a.args.position) (amount_of a.args.length) (asked a.args.exchange) a.args.out.now r _)
     c.read-answer.result
     _
     _

@@ -12,7 +12,7 @@ returns c =
     let e₁ : c.amount_of-at.result ≡ amount_of a.args.position = c.amount_of-at.ensures ∙ ap amount_of (to_z-of_z a.ranges.position) in
     let e₂ : c.amount_of-long.result ≡ amount_of a.args.length = c.amount_of-long.ensures ∙ ap amount_of (to_z-of_z a.ranges.length) in
     answer_out
-    (λ r. Wrote a.args.books-1.now a.args.withheld.now a.args.body-1.now a.args.id (amount_of a.args.position) (amount_of a.args.length) (asked a.args.exchange) a.args.input.now a.args.date.now r _ _)
+    (λ r. Wrote a.args.books.now a.args.withheld.now a.args.body.now a.args.id (amount_of a.args.position) (amount_of a.args.length) (asked a.args.exchange) a.args.input.now a.args.date.now r _ _)
     c.write-answer.result
     _
     _

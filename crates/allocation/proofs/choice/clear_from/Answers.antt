@@ -33,7 +33,7 @@ pub overflow_sub-at : goal.overflow_sub-at
 overflow_sub-at c = omega (arith, inside c)
 
 pub used_ahead-used-requires : goal.used_ahead-used-requires
-used_ahead-used-requires c = (search rules, (omega (arith, inside c), omega (arith, inside c)))
+used_ahead-used-requires c = record { layout = search rules; left_nonzero = (omega (arith, inside c), omega (arith, inside c)) }
 
 pub returns-then-used-eq0 : goal.returns-then-used-eq0
 returns-then-used-eq0 c =

@@ -7,7 +7,7 @@ pub loop-i-init : goal.loop-i-init
 loop-i-init c = search adding_none
 
 pub choose_block-choice-requires : goal.choose_block-choice-requires
-choose_block-choice-requires c = (search adding_layout, (search adding_typed, (adding_r3 _ _ _ _ _ _ _ _ _ c.loop-i.invariant, search rules)))
+choose_block-choice-requires c = record { layout = search adding_layout; data_type = search adding_typed; r3 = adding_r3 _ _ _ _ _ _ _ _ _ c.loop-i.invariant; behind = search rules }
 
 pub lay_or_plan-cursor-requires : goal.lay_or_plan-cursor-requires
 lay_or_plan-cursor-requires c = search adding_laying

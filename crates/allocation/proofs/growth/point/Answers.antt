@@ -6,7 +6,7 @@ pub point_here-requires : goal.point_here-requires
 point_here-requires c = record { layout = search rules; in_table = search joined_in_table; le_table = search rules }
 
 pub point_here-requires-in-Beside : goal.point_here-requires-in-Beside
-point_here-requires-in-Beside c = (search rules, (search beside_in_table, search rules))
+point_here-requires-in-Beside c = record { layout = search rules; in_table = search beside_in_table; le_table = search rules }
 
 pub point_further-requires : goal.point_further-requires
 point_further-requires c = record { layout = search rules; head = search further_head; in_table = search further_in_table; le_table = search rules }

@@ -9,7 +9,7 @@ pub loop-j-init : goal.loop-j-init
 loop-j-init c = search passing_none
 
 pub pointer_at-q-requires : goal.pointer_at-q-requires
-pointer_at-q-requires c = let a = c.args in (search rules, omega (arith, slots_in a.i.0 a.t.now))
+pointer_at-q-requires c = let a = c.args in record { t_len = search rules; at_bound = omega (arith, slots_in a.i.0 a.t.now) }
 
 pub returns-then-q-eq0 : goal.returns-then-q-eq0
 returns-then-q-eq0 c = (search passing_stop, search rules)

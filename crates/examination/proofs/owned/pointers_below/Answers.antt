@@ -8,10 +8,10 @@ pub loop-j-init : goal.loop-j-init
 loop-j-init c = (search rules, search pointers_none)
 
 pub pointer_at-q-requires : goal.pointer_at-q-requires
-pointer_at-q-requires c = (search rules, search slot_in)
+pointer_at-q-requires c = record { t_len = search rules; at_bound = search slot_in }
 
 pub mark_below-low-requires : goal.mark_below-low-requires
-mark_below-low-requires c = (search rules, search pointer_room)
+mark_below-low-requires c = record { m_len = search rules; count_bound = search pointer_room }
 
 pub loop-j-preserved : goal.loop-j-preserved
 loop-j-preserved c =

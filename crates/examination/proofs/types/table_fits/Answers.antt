@@ -7,7 +7,7 @@ pub returns-then-not-is_variable : goal.returns-then-not-is_variable
 returns-then-not-is_variable c = search fits_other
 
 pub file_type-ty-requires : goal.file_type-ty-requires
-file_type-ty-requires c = (search rules, (c.requires.r6, (search rules, search fits_word)))
+file_type-ty-requires c = record { layout = search rules; r6 = c.requires.r6; le_f = search rules; f_value = search fits_word }
 
 pub table_type-requires : goal.table_type-requires
 table_type-requires c = record { layout = search rules; t_len = search rules; shape = rw c.table.ensures.0 (c.requires.r6 c.args.i.0 (omega arith) (omega arith)) }

@@ -10,7 +10,7 @@ pub loop-j-init : goal.loop-j-init
 loop-j-init c = (search rules, λ k l. absurd (omega arith))
 
 pub pointer_at-q-requires : goal.pointer_at-q-requires
-pointer_at-q-requires c = (search rules, search slot_in)
+pointer_at-q-requires c = record { t_len = search rules; at_bound = search slot_in }
 
 pub run_type-requires : goal.run_type-requires
 run_type-requires c = let a = c.args in record { layout = search rules; count_bound = run_within (view_of a.p a.b.now) a.i.0 a.t.now c.loop-j.j c.base-base.result c.pointer_at-q.result (search rules) (omega arith) (search rules) (search rules) }

@@ -15,7 +15,7 @@ some c = omega (arith, c.if-q-eq0.false)
 
 -- which can be counted
 
-can : (c : tie.Else1) → let a = c.args in Recountable (view_of a.p a.b-1.now) a.q.start.0 a.q.count
+can : (c : tie.Else1) → let a = c.args in Recountable (view_of a.p a.b.now) a.q.start.0 a.q.count
 can c = c.requires.recountable (some c)
 
 -- the entry that is read then is one that can count them
@@ -28,12 +28,12 @@ counts c =
     let i = c in
     let s = i in
     let h = can i in (
-      entry_typed s.args.p s.args.b-1.now _ _ s.requires.layout _ x (omega (arith, h.high)) h _ z _ c.zone_entry.ensures,
-      entry_few s.args.p s.args.b-1.now _ _ s.requires.layout _ x (omega (arith, h.high)) h _ z _ c.zone_entry.ensures,
+      entry_typed s.args.p s.args.b.now _ _ s.requires.layout _ x (omega (arith, h.high)) h _ z _ c.zone_entry.ensures,
+      entry_few s.args.p s.args.b.now _ _ s.requires.layout _ x (omega (arith, h.high)) h _ z _ c.zone_entry.ensures,
     )
 
 pub returns-then-q-eq0 : goal.returns-then-q-eq0
-returns-then-q-eq0 c = let a = c.args in run_none a.p a.b-1.now a.q.start.0 a.q.count c.if-q-eq0.true
+returns-then-q-eq0 c = let a = c.args in run_none a.p a.b.now a.q.start.0 a.q.count c.if-q-eq0.true
 
 pub put_sectors-requires : goal.put_sectors-requires
 put_sectors-requires c = record { layout = search rules; n_bound = (omega (arith, (can c).high), search rules) }
@@ -43,7 +43,7 @@ zone_entry-requires c = let z = c.zone_of-z.ensures in
     let h = can c in record { layout = search rules; le_z = (omega (arith, z), omega (arith, z, h.high, some c)) }
 
 pub recounted-e-requires : goal.recounted-e-requires
-recounted-e-requires c = counts c
+recounted-e-requires c = let asks = counts c in record { zone_type = asks.0; n_bound = asks.1 }
 
 pub put_zone-requires : goal.put_zone-requires
 put_zone-requires c = let e = c in
@@ -51,12 +51,12 @@ put_zone-requires c = let e = c in
     let x = e in
     let i = e in
     let a = i.args in
-    let small = zone_small a.p _ _ e.zone_entry.result e.zone_entry.ensures (λ j. omega (arith, x.type_inv.b j)) _ (counts e).0 (counts e).1 _ c.recounted-e.ensures in record { layout = search rules; le_z = (omega (arith, z), omega (arith, z, (can i).high, some i)); t_bound = small }
+    let small = zone_small a.p _ _ e.zone_entry.result e.zone_entry.ensures (λ j. omega (arith, c.type_inv.b j)) _ (counts e).0 (counts e).1 _ c.recounted-e.ensures in record { layout = search rules; le_z = (omega (arith, z), omega (arith, z, (can i).high, some i)); t_bound = small }
 
 pub returns : goal.returns
 returns c =
     let e = c in
     let i = e in
     let s = i in
-    run_put s.args.p s.args.b-1.now _ _ s.requires.layout _ e.put_sectors.ensures (omega (arith, (can i).high)) (some i) _ e.zone_of-z.ensures
+    run_put s.args.p s.args.b.now _ _ s.requires.layout _ e.put_sectors.ensures (omega (arith, (can i).high)) (some i) _ e.zone_of-z.ensures
     _ e.zone_entry.ensures _ c.recounted-e.ensures _ c.put_zone.ensures

@@ -10,7 +10,7 @@ proper : (c : tie.Start) → let a = c.args in (2 ≤ a.k.zone.0) × (a.k.zone.0
 proper c =
     let a = c.args in
     let q = c.requires.1.1.1 in
-    head_proper a.p a.b-1.now c.requires.layout c.requires.lawful_some.1 a.f.0 c.requires.parent a.n q.0.0 q.0.1 a.k q.1.0 q.1.1
+    head_proper a.p a.b.now c.requires.layout c.requires.lawful_some.1 a.f.0 c.requires.parent a.n c.requires.le_n.0 c.requires.le_n.1 a.k c.requires.k_value.0 c.requires.k_value.1
 
 pub put_run-requires : goal.put_run-requires
 put_run-requires c = record { layout = search rules; le_zone = proper c }
@@ -27,7 +27,7 @@ free_run-requires c = let r = c in
     let o = x in
     let s = o in
     let a = s.args in
-    let q = s.requires.1.1.1 in record { layout = search rules; recountable = head_countable a.p a.b-1.now s.requires.layout s.requires.lawful_some.1 a.f.0 s.requires.parent a.n q.0.0 q.0.1 a.k q.1.0 q.1.1
+    let q = s.requires.1.1.1 in record { layout = search rules; recountable = head_countable a.p a.b.now s.requires.layout s.requires.lawful_some.1 a.f.0 s.requires.parent a.n c.requires.le_n.0 c.requires.le_n.1 a.k c.requires.k_value.0 c.requires.k_value.1
           _ _ _ r.run_start.result o.pointer_at-old.result o.table.ensures.0 o.pointer_at-old.ensures.0 x.put_run.ensures r.run_start.ensures c.put_pointer.ensures }
 
 pub returns : goal.returns
@@ -39,6 +39,6 @@ returns c =
     let s = o in
     let a = s.args in
     let q = s.requires.1.1.1 in
-    head_done a.p a.b-1.now s.requires.layout s.requires.lawful_some.1 a.f.0 s.requires.parent a.n q.0.0 q.0.1 a.k q.1.0 q.1.1
+    head_done a.p a.b.now s.requires.layout s.requires.lawful_some.1 a.f.0 s.requires.parent a.n c.requires.le_n.0 c.requires.le_n.1 a.k c.requires.k_value.0 c.requires.k_value.1
     _ _ _ r.run_start.result o.pointer_at-old.result o.table.ensures.0 o.pointer_at-old.ensures.0 x.put_run.ensures r.run_start.ensures y.put_pointer.ensures
     _ c.free_run.ensures

@@ -7,10 +7,10 @@ pub loop-j-init : goal.loop-j-init
 loop-j-init c =
     let s = c in
     let t = c.table.ensures.0 in
-    clearing_none s.args.p s.args.b-1.now s.args.i.0 _ _ _ _ s.requires.layout s.requires.runs_within t c.slots-n.ensures.0 c.table-2.ensures.0 c.base-at.ensures.0
+    clearing_none s.args.p s.args.b.now s.args.i.0 _ _ _ _ s.requires.layout s.requires.runs_within t c.slots-n.ensures.0 c.table-2.ensures.0 c.base-at.ensures.0
 
 pub pointer_at-q-requires : goal.pointer_at-q-requires
-pointer_at-q-requires c = (search rules, search clearing_place)
+pointer_at-q-requires c = record { t_len = search rules; at_bound = search clearing_place }
 
 pub put_sectors-requires : goal.put_sectors-requires
 put_sectors-requires c = record { layout = search rules; n_bound = (search clearing_room, search rules) }

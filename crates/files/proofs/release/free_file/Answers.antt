@@ -8,7 +8,7 @@ put_freed-requires c = let t = c in
     let s = l in
     let n = t.free_tables-n.ensures in
     let counts =
-    file_counts s.args.p s.args.b-1.now s.requires.layout s.requires.lawful_some.1 s.args.f.0 s.requires.parent _ _ _ _ _ l.first_free-first.ensures
+    file_counts s.args.p s.args.b.now s.requires.layout s.requires.lawful_some.1 s.args.f.0 s.requires.parent _ _ _ _ _ l.first_free-first.ensures
     l.last_table-last.ensures.0 n.0 n.1 n.2 c.put_link.ensures s.requires.f_value in record { in_bounds = search rules; bound = counts; date_len = search rules }
 
 pub returns : goal.returns

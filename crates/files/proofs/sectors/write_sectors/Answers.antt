@@ -16,14 +16,14 @@ here c =
     moving_here _ _ s.requires.layout s.requires.lawful_some.1 s.args.f.0 _ _ _ _ s.requires.movable _ _ _ c.seek-c.ensures _ _ _ c.loop-i.invariant c.loop-i-test.true
 
 pub seek-c-requires : goal.seek-c-requires
-seek-c-requires c = let s = c in (s.requires.layout, (s.requires.lawful_some, (s.requires.movable.parent, s.requires.movable.some)))
+seek-c-requires c = let s = c in record { layout = s.requires.layout; lawful_some = s.requires.lawful_some; parent = s.requires.movable.parent; k_bound = s.requires.movable.some }
 
 pub loop-i-init : goal.loop-i-init
 unfolding filled
 loop-i-init c = moving_none _ _ _ _ _ _ (λ f. refl)
 
 pub spot_place-a-requires : goal.spot_place-a-requires
-spot_place-a-requires c = (c.requires.layout, here c)
+spot_place-a-requires c = record { layout = c.requires.layout; on_sector = here c }
 
 pub overflow_add-e : goal.overflow_add-e
 overflow_add-e c = omega arith
@@ -59,7 +59,7 @@ pub move_sector-requires : goal.move_sector-requires
 move_sector-requires c = (simp (length-take, length-drop) (omega arith), simp (length-take, length-drop) (omega arith))
 
 pub onward-c-requires : goal.onward-c-requires
-onward-c-requires c = (c.requires.layout, here c)
+onward-c-requires c = record { layout = c.requires.layout; on_sector = here c }
 
 pub overflow_add-i : goal.overflow_add-i
 overflow_add-i c = omega arith

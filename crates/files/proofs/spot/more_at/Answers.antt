@@ -10,7 +10,7 @@ pub returns-then-j-slots : goal.returns-then-j-slots
 returns-then-j-slots c = search more_none
 
 pub pointer_at-q-requires : goal.pointer_at-q-requires
-pointer_at-q-requires c = (search rules, search next_in)
+pointer_at-q-requires c = record { t_len = search rules; at_bound = search next_in }
 
 pub returns : goal.returns
 returns c = search more_some

@@ -17,13 +17,13 @@ returns-then-not-is_zone_type c =
     zone_other _ _ _ e.result e.ensures z.result z.ensures c.if-not-is_zone_type.true-raw
 
 pub clear_blocks-n-requires : goal.clear_blocks-n-requires
-clear_blocks-n-requires c = (search rules, (search rules, typed c))
+clear_blocks-n-requires c = record { layout = search rules; le_z = search rules; zone_type = typed c }
 
 pub returns-then-n-e : goal.returns-then-n-e
 returns-then-n-e c = search zone_same
 
 pub recounted-x-requires : goal.recounted-x-requires
-recounted-x-requires c = (typed c, search rules)
+recounted-x-requires c = record { zone_type = typed c; n_bound = search rules }
 
 pub put_zone-requires : goal.put_zone-requires
 put_zone-requires c = let k = c in
@@ -32,7 +32,7 @@ put_zone-requires c = let k = c in
     let s = e in
     let a = s.args in
     let small =
-    zone_small a.p a.b-1.now a.z.0 e.zone_entry-e.result e.zone_entry-e.ensures (λ j. omega (arith, s.slice_known-1.given j)) _ (typed i)
+    zone_small a.p a.b.now a.z.0 e.zone_entry-e.result e.zone_entry-e.ensures (λ j. omega (arith, s.slice_known-1.given j)) _ (typed i)
     (omega (arith, k.clear_blocks-n.ensures.0, c.if-n-e.false)) _ c.recounted-x.ensures in record { layout = search rules; le_z = search rules; t_bound = small }
 
 pub returns : goal.returns

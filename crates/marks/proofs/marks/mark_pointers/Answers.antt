@@ -7,7 +7,7 @@ pub loop-j-init : goal.loop-j-init
 loop-j-init c = (search rules, first_none _ _ _)
 
 pub pointer_at-q-requires : goal.pointer_at-q-requires
-pointer_at-q-requires c = (search rules, search slot_in)
+pointer_at-q-requires c = record { t_len = search rules; at_bound = search slot_in }
 
 pub returns-then-q-eq0 : goal.returns-then-q-eq0
 returns-then-q-eq0 c = search first_rest

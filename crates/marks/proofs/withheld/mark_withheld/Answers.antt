@@ -7,7 +7,7 @@ pub loop-k-init : goal.loop-k-init
 loop-k-init c = (search rules, marks_begin _ _ _)
 
 pub block_from-q-requires : goal.block_from-q-requires
-block_from-q-requires c = (search rules, search list_starts)
+block_from-q-requires c = record { layout = search rules; starts_block = search list_starts }
 
 pub loop-k-preserved : goal.loop-k-preserved
 loop-k-preserved c =

@@ -3,10 +3,8 @@ use Rattle.requests.proofs.DiagnosisLaws.{diagnosis_refused, diagnosis_found}
 use Rattle.requests.proofs.broken_rule.broken_rule.Goals as goal
 
 pub lowest_fault-requires : goal.lowest_fault-requires
-lowest_fault-requires c =
-    let f = c in
-    let a = f.args in
-    tables_at a.b.now a.withheld.now f.find_tables-found.result f.find_tables-found.ensures _ c.in-At.is
+lowest_fault-requires c = let f = c in
+    let a = f.args in let asks = tables_at a.b.now a.withheld.now f.find_tables-found.result f.find_tables-found.ensures _ c.in-At.is in record { placed_at = asks.0; withholds = asks.1 }
 
 pub returns-in-Refused : goal.returns-in-Refused
 returns-in-Refused c =

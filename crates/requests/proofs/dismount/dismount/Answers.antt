@@ -7,7 +7,7 @@ pub returns-then-n-ne0 : goal.returns-then-n-ne0
 returns-then-n-ne0 c = search dismount_stops
 
 pub put_flag-requires : goal.put_flag-requires
-put_flag-requires c = (use_room c.args.b-1.now c.args.withheld.now c.use_number-n.result c.use_number-n.ensures (search rules), search rules)
+put_flag-requires c = (use_room c.args.b.now c.args.withheld.now c.use_number-n.result c.use_number-n.ensures (search rules), search rules)
 
 pub returns : goal.returns
 returns c = search dismount_ends

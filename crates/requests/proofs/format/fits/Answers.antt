@@ -7,10 +7,10 @@ returns-in-Below c = zones_below _ _ _ c.in-Below.is
 pub returns-in-Below-indexes : goal.returns-in-Below-indexes
 returns-in-Below-indexes c =
     let a = c.args in
-    indexes_below a.len a.zones-1 a.indexes-1 c.in-Below-indexes.is
+    indexes_below a.len a.zones a.indexes c.in-Below-indexes.is
 
 pub returns-in-Is-indexes : goal.returns-in-Is-indexes
 returns-in-Is-indexes c =
     let a = c.args in
-    fits_says c.formattable.result a.len _ _ a.zones-1 a.indexes-1
+    fits_says c.formattable.result a.len _ _ a.zones a.indexes
     c.in-Is.is c.in-Is-indexes.is c.formattable.ensures

@@ -7,14 +7,14 @@ use Rattle.requests.proofs.list.add_front.Goals as goal
 pub returns-then-n-entries : goal.returns-then-n-entries
 returns-then-n-entries c =
     let a = c.args in
-    front_full _ a.n (length a.entries-1.now / 64) _ a.entries-1.now (omega arith)
+    front_full _ a.n (length a.entries.now / 64) _ a.entries.now (omega arith)
 
 pub returns-then-not-is_listed : goal.returns-then-not-is_listed
 returns-then-not-is_listed c =
     let a = c.args in
-    front_none _ a.n (length a.entries-1.now / 64) _ a.entries-1.now c.is_listed.result (omega arith) c.is_listed.ensures c.if-not-is_listed.true-raw
+    front_none _ a.n (length a.entries.now / 64) _ a.entries.now c.is_listed.result (omega arith) c.is_listed.ensures c.if-not-is_listed.true-raw
 
 pub returns : goal.returns
 returns c =
     let a = c.args in
-    front_here _ a.n (length a.entries-1.now / 64) _ a.entries-1.now c.is_listed.result (omega arith) c.is_listed.ensures _ c.if-not-is_listed.false-raw c.put_front.ensures
+    front_here _ a.n (length a.entries.now / 64) _ a.entries.now c.is_listed.result (omega arith) c.is_listed.ensures _ c.if-not-is_listed.false-raw c.put_front.ensures

@@ -11,7 +11,7 @@ pub read_places-p-requires : goal.read_places-p-requires
 read_places-p-requires c = search lent_room
 
 pub usable_number-m-requires : goal.usable_number-m-requires
-usable_number-m-requires c = (search lent_good_at, omega arith)
+usable_number-m-requires c = record { good_some = search lent_good_at; w_nonzero = omega arith }
 
 pub returns-then-m-ne0 : goal.returns-then-m-ne0
 returns-then-m-ne0 c = search placing_unusable
@@ -20,9 +20,7 @@ pub header_sectors-requires : goal.header_sectors-requires
 header_sectors-requires c = search placing_few
 
 pub header_place-k-requires : goal.header_place-k-requires
-header_place-k-requires c =
-    let p = c in
-    ((lent_good_at _ _ _ _ _ p.lent_number-n.ensures p.if-n-ne0.false _ p.read_places-p.ensures).1.layout, search rules)
+header_place-k-requires c = let p = c in record { layout = (lent_good_at _ _ _ _ _ p.lent_number-n.ensures p.if-n-ne0.false _ p.read_places-p.ensures).1.layout; le_n = search rules }
 
 pub returns-then-k-p : goal.returns-then-k-p
 returns-then-k-p c = search placing_full

@@ -18,7 +18,7 @@ pub read_places-p-requires : goal.read_places-p-requires
 read_places-p-requires c = search argument_room
 
 pub usable_number-m-requires : goal.usable_number-m-requires
-usable_number-m-requires c = (search argued_good, search rules)
+usable_number-m-requires c = record { good_some = search argued_good; w_nonzero = search rules }
 
 pub returns-then-m-ne0 : goal.returns-then-m-ne0
 returns-then-m-ne0 c = search (read_goes, body_goes, read_unusable)

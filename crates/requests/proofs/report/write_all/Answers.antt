@@ -5,16 +5,16 @@ use Rattle.requests.proofs.report.write_all.Goals as goal
 
 pub write_sizes-a-requires : goal.write_sizes-a-requires
 unfolding lines_of
-write_sizes-a-requires c = first_of_three c.args.s-1.now 0 (size_lines c.args.f) (file_lines c.args.f) (state_lines c.args.f) (omega (arith, c.requires))
+write_sizes-a-requires c = first_of_three c.args.s.now 0 (size_lines c.args.f) (file_lines c.args.f) (state_lines c.args.f) (omega (arith, c.requires))
 
 pub write_files-c-requires : goal.write_files-c-requires
 unfolding lines_of
-write_files-c-requires c = second_of_three c.args.s-1.now 0 (size_lines c.args.f) (file_lines c.args.f) (state_lines c.args.f) (omega (arith, c.requires)) _ _ c.write_sizes-a.ensures
+write_files-c-requires c = second_of_three c.args.s.now 0 (size_lines c.args.f) (file_lines c.args.f) (state_lines c.args.f) (omega (arith, c.requires)) _ _ c.write_sizes-a.ensures
 
 pub write_state-requires : goal.write_state-requires
 unfolding lines_of
-write_state-requires c = third_of_three c.args.s-1.now 0 (size_lines c.args.f) (file_lines c.args.f) (state_lines c.args.f) (omega (arith, c.requires)) _ _ c.write_sizes-a.ensures _ _ c.write_files-c.ensures
+write_state-requires c = third_of_three c.args.s.now 0 (size_lines c.args.f) (file_lines c.args.f) (state_lines c.args.f) (omega (arith, c.requires)) _ _ c.write_sizes-a.ensures _ _ c.write_files-c.ensures
 
 pub returns : goal.returns
 unfolding lines_of
-returns c = put_three c.args.s-1.now 0 (size_lines c.args.f) (file_lines c.args.f) (state_lines c.args.f) (omega (arith, c.requires)) _ _ c.write_sizes-a.ensures _ _ c.write_files-c.ensures _ _ c.write_state.ensures
+returns c = put_three c.args.s.now 0 (size_lines c.args.f) (file_lines c.args.f) (state_lines c.args.f) (omega (arith, c.requires)) _ _ c.write_sizes-a.ensures _ _ c.write_files-c.ensures _ _ c.write_state.ensures

@@ -8,4 +8,4 @@ sector_of-requires c = record { layout = search rules; on_sector = search kth_on
 pub returns : goal.returns
 returns c =
     let q = c.requires in
-    kth_found _ _ _ _ q.0.1 q.1.0 q.1.1 _ c.seek.ensures _ c.sector_of.ensures
+    kth_found _ _ _ _ q.good_some.1 q.parent q.k_bound _ c.seek.ensures _ c.sector_of.ensures

@@ -20,7 +20,7 @@ pub read_places-p-requires : goal.read_places-p-requires
 read_places-p-requires c = search use_room
 
 pub usable_number-m-requires : goal.usable_number-m-requires
-usable_number-m-requires c = (search use_good, omega arith)
+usable_number-m-requires c = record { good_some = search use_good; w_nonzero = omega arith }
 
 pub returns-then-m-ne0 : goal.returns-then-m-ne0
 unfolding show_tests

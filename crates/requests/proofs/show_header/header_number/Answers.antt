@@ -20,16 +20,14 @@ pub read_places-p-requires : goal.read_places-p-requires
 read_places-p-requires c = search use_room
 
 pub usable_number-m-requires : goal.usable_number-m-requires
-usable_number-m-requires c = (search use_good, omega arith)
+usable_number-m-requires c = record { good_some = search use_good; w_nonzero = omega arith }
 
 pub returns-then-m-ne0 : goal.returns-then-m-ne0
 unfolding show_header_tests
 returns-then-m-ne0 c = search (use_goes, body_goes, header_unusable)
 
 pub table-requires : goal.table-requires
-table-requires c =
-    let n = c in
-    header_table _ _ _ _ c.usable_number-m.ensures c.if-m-ne0.false _ n.use_number-n.ensures n.if-n-ne0.false _ c.read_places-p.ensures
+table-requires c = let n = c in let asks = header_table _ _ _ _ c.usable_number-m.ensures c.if-m-ne0.false _ n.use_number-n.ensures n.if-n-ne0.false _ c.read_places-p.ensures in record { layout = asks.0; le_i = asks.1 }
 
 pub returns-then-q-eq0 : goal.returns-then-q-eq0
 unfolding show_header_tests

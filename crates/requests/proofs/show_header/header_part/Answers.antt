@@ -9,7 +9,7 @@ pub read_places-requires : goal.read_places-requires
 read_places-requires c = search header_room
 
 pub table-requires : goal.table-requires
-table-requires c = header_asks _ _ _ _ _ c.header_number.ensures c.if-header_number-ne0.false _ c.read_places.ensures
+table-requires c = let asks = header_asks _ _ _ _ _ c.header_number.ensures c.if-header_number-ne0.false _ c.read_places.ensures in record { layout = asks.0; le_i = asks.1 }
 
 pub body_place-requires : goal.body_place-requires
 body_place-requires c = search header_low

@@ -23,13 +23,11 @@ read_places-requires c =
     _ _ _ n.number_of_lem.ensures n.number_of.ensures n.whole_sectors-n.ensures.0 _ w.Put-written.ensures
 
 pub write_sectors-requires : goal.write_sectors-requires
-write_sectors-requires c =
-    let w = c in
+write_sectors-requires c = let w = c in
     let n = w in
-    let j = n in
-    wrote_asks _ _ _ _ _ _ _ _ _ j.write_number-m.ensures j.if-m-ne0.false
+    let j = n in let asks = wrote_asks _ _ _ _ _ _ _ _ _ j.write_number-m.ensures j.if-m-ne0.false
     _ _ _ n.number_of_lem.ensures n.number_of.ensures n.whole_sectors-n.ensures.0 _ w.Put-written.ensures
-    _ c.read_places.ensures w.if-n-eq0.false
+    _ c.read_places.ensures w.if-n-eq0.false in record { layout = asks.0; lawful_some = asks.1.0; movable = asks.1.1 }
 
 pub returns : goal.returns
 returns c = search write_done

@@ -5,7 +5,7 @@ use Prim.Native.Nat.{◌+◌, ◌*◌, ◌≤◌}
 use borrow.Author.Rules.{rules}
 use Rattle.allocation.proofs.choice.block_start.Goals as goal
 
-inside : (c : tie.After-block-sectors) → let a = c.args in a.k.number * c.block_sectors.result + c.block_sectors.result ≤ 1024
+inside : (c : goal.After-block_sectors) → let a = c.args in a.k.number * c.block_sectors.result + c.block_sectors.result ≤ 1024
 inside c = block_inside _ _ _ c.block_sectors.ensures.0 c.block_sectors.ensures.1 (search rules)
 
 pub overflow_mul-result : goal.overflow_mul-result

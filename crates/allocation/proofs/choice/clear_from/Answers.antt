@@ -8,12 +8,12 @@ use mathlib.Core.Path.{refl}
 use borrow.Author.Rules.{rules}
 use Rattle.allocation.proofs.choice.clear_from.Goals as goal
 
-inside : (c : tie.In-loop invariant-loop decreases-loop) → let k = c.loop-k.k in let size = c.block_sectors-size.result in k * size + size ≤ 1024
+inside : (c : goal.In-loop-k) → let k = c.loop-k.k in let size = c.block_sectors-size.result in k * size + size ≤ 1024
 inside c = block_inside _ _ _ c.block_sectors-size.ensures.0 c.block_sectors-size.ensures.1 (omega arith)
 
 -- the block after those that are passed over
 
-over : (c : tie.Else1 invariant-loop decreases-loop) → let k = c.loop-k.k in let s = c in
+over : (c : goal.Else-used-eq0) → let k = c.loop-k.k in let s = c in
     k + ceil c.used_ahead-used.result s.block_sectors-size.result ≤ c.zone_blocks-last.result
 over c =
     let s = c in

@@ -10,7 +10,7 @@ use Rattle.allocation.proofs.header.clear_run.Goals as goal
 
 -- the free sectors with one more
 
-longer : (c : tie.Else1 invariant-loop decreases-loop) → let l = c.loop-from in let a = c.args in
+longer : (c : goal.Else-used-gt0) → let l = c.loop-from in let a = c.args in
     sum_to (l.free + 1) (λ i. sector_at a.p a.b.now (c.first_sector-first.result.0 + l.from + i)) ≡ 0
 longer c =
     let l = c.loop-from in

@@ -1,4 +1,5 @@
 use Rattle.examination.proofs.MeetingLaws.{child_other, child_none, child_twice, child_strange, child_lawful}
+use borrow.Author.Rules.{rules}
 use Rattle.examination.proofs.chains.child_valid.Goals as goal
 
 pub returns-then-not-child_number : goal.returns-then-not-child_number
@@ -17,5 +18,5 @@ pub returns : goal.returns
 returns c =
     let m = c in
     let k = m in
-    child_lawful _ _ _ k.requires.met_up_to k.child_number.result k.child_number.ensures m.if-not-child_number.false-raw _ m.table-t.ensures.0 _ c.parent.ensures
+    child_lawful _ _ _ k.requires.met_up_to k.child_number.result k.child_number.ensures (search rules) _ m.table-t.ensures.0 _ c.parent.ensures
     m.if-of-eq0.false c.if-of-eq-TWICE.false c.if-parent-of.false c.some_used.result c.some_used.ensures

@@ -1,4 +1,5 @@
 use Rattle.examination.proofs.MeetingLaws.{link_other, link_astray, link_full}
+use borrow.Author.Rules.{rules}
 use Rattle.examination.proofs.chains.link_valid.Goals as goal
 
 pub returns-then-not-in_chain : goal.returns-then-not-in_chain
@@ -12,5 +13,5 @@ returns c =
     let n = c in
     let a = n in
     let k = a in
-    link_full _ _ k.in_chain.result k.in_chain.ensures _ a.next_of-at.ensures a.if-not-in_chain.false-raw n.if-at-eq0.false n.child_number.result n.child_number.ensures c.if-not-child_number.false-raw
+    link_full _ _ k.in_chain.result k.in_chain.ensures _ a.next_of-at.ensures (search rules) n.if-at-eq0.false n.child_number.result n.child_number.ensures (search rules)
     c.is_full.result c.is_full.ensures

@@ -12,7 +12,7 @@ returns-then-not-rules_hold c =
     let f = c in
     let a = f.args in
     let at = tables_at a.b.now a.withheld.now f.find_tables-found.result f.find_tables-found.ensures _ c.in-At.is in
-    refused_4 a.b.now a.withheld.now _ at.0 at.1 c.rules_hold.result c.rules_hold.ensures c.if-not-rules_hold.true-raw
+    refused_4 a.b.now a.withheld.now _ at.0 at.1 c.rules_hold.result c.rules_hold.ensures (search rules)
 
 pub returns-in-Refused : goal.returns-in-Refused
 returns-in-Refused c =
@@ -25,4 +25,4 @@ returns-else-not-rules_hold c =
     let f = c in
     let a = f.args in
     let at = tables_at a.b.now a.withheld.now f.find_tables-found.result f.find_tables-found.ensures _ c.in-At.is in
-    is_fine a.b.now a.withheld.now _ at.0 at.1 c.rules_hold.result c.rules_hold.ensures c.if-not-rules_hold.false-raw
+    is_fine a.b.now a.withheld.now _ at.0 at.1 c.rules_hold.result c.rules_hold.ensures (search rules)

@@ -1,4 +1,5 @@
 use Rattle.examination.proofs.CheckLaws.{found_at, found_unplaced, unplaced_listed, refused_7, list_fine}
+use borrow.Author.Rules.{rules}
 use Rattle.examination.proofs.check.find_tables.Goals as goal
 
 pub withholds-requires : goal.withholds-requires
@@ -10,7 +11,7 @@ pub returns-then-not-withholds : goal.returns-then-not-withholds
 returns-then-not-withholds c =
     let f = c in
     let b = f.args.b.now in
-    refused_7 b _ _ (found_at b f.find_places-found.result f.find_places-found.ensures _ c.in-At.is) c.withholds.result c.withholds.ensures c.if-not-withholds.true-raw
+    refused_7 b _ _ (found_at b f.find_places-found.result f.find_places-found.ensures _ c.in-At.is) c.withholds.result c.withholds.ensures (search rules)
 
 pub returns-in-Refused : goal.returns-in-Refused
 returns-in-Refused c =
@@ -22,4 +23,4 @@ pub returns-else-not-withholds : goal.returns-else-not-withholds
 returns-else-not-withholds c =
     let f = c in
     let b = f.args.b.now in
-    list_fine b _ _ (found_at b f.find_places-found.result f.find_places-found.ensures _ c.in-At.is) c.withholds.result c.withholds.ensures c.if-not-withholds.false-raw
+    list_fine b _ _ (found_at b f.find_places-found.result f.find_places-found.ensures _ c.in-At.is) c.withholds.result c.withholds.ensures (search rules)

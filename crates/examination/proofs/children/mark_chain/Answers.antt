@@ -24,7 +24,7 @@ pub bounds-seen-k-in-loop-at : goal.bounds-seen-k-in-loop-at
 bounds-seen-k-in-loop-at c = search child_index
 
 pub next_of-at-requires-in-loop-at : goal.next_of-at-requires-in-loop-at
-next_of-at-requires-in-loop-at c = record { layout = search rules; le_i = child_in _ _ _ _ c.follows.result c.follows.ensures c.if-not-follows.false-raw }
+next_of-at-requires-in-loop-at c = record { layout = search rules; le_i = child_in _ _ _ _ c.follows.result c.follows.ensures (search rules) }
 
 pub loop-at-smaller : goal.loop-at-smaller
 loop-at-smaller c = search (clear_less, child_small)

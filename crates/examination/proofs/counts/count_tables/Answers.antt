@@ -8,7 +8,7 @@ pub loop-k-init : goal.loop-k-init
 loop-k-init c = (search rules, search counted_none)
 
 pub count_table-c-requires : goal.count_table-c-requires
-count_table-c-requires c = (counted_few _ _ _ c.loop-k.invariant.1 (omega arith), search rules)
+count_table-c-requires c = record { few = counted_few _ _ _ c.loop-k.invariant.1 (omega arith); layout = search rules; le_i = search rules }
 
 pub loop-k-preserved : goal.loop-k-preserved
 loop-k-preserved c = (search rules, search counted_more)

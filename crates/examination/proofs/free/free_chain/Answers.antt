@@ -24,7 +24,7 @@ pub bounds-seen-k-in-loop-at : goal.bounds-seen-k-in-loop-at
 bounds-seen-k-in-loop-at c = search free_small
 
 pub table-requires : goal.table-requires
-table-requires c = record { layout = search rules; le_i = free_in_lem _ _ c.index_free.result c.index_free.ensures c.if-not-index_free.false-raw }
+table-requires c = record { layout = search rules; le_i = free_in_lem _ _ c.index_free.result c.index_free.ensures (search rules) }
 
 pub loop-at-smaller : goal.loop-at-smaller
 loop-at-smaller c = search (clear_less, free_small)

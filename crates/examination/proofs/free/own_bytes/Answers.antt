@@ -7,7 +7,7 @@ pub loop-i-init : goal.loop-i-init
 loop-i-init c = (search rules, search rules, each_none _ 1)
 
 pub returns-then-not-own : goal.returns-then-not-own
-returns-then-not-own c = fails_here _ 1 _ _ c.own.result (search rules) (search rules) c.loop-i.invariant.2 c.own.ensures c.if-not-own.true-raw
+returns-then-not-own c = fails_here _ 1 _ _ c.own.result (search rules) (search rules) c.loop-i.invariant.2 c.own.ensures (search rules)
 
 pub loop-i-preserved : goal.loop-i-preserved
 loop-i-preserved c = (search rules, search rules, search each_more)

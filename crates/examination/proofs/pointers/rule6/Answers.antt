@@ -12,7 +12,7 @@ pub returns-then-not-table_valid : goal.returns-then-not-table_valid
 returns-then-not-table_valid c =
     let l = c.loop-i in
     let a = c.args in
-    fails_here (PointerLaw (view_of a.p a.b.now)) 1 _ l.i c.table_valid.result (search rules) (search rules) l.invariant.2 c.table_valid.ensures c.if-not-table_valid.true-raw
+    fails_here (PointerLaw (view_of a.p a.b.now)) 1 _ l.i c.table_valid.result (search rules) (search rules) l.invariant.2 c.table_valid.ensures (search rules)
 
 pub loop-i-preserved : goal.loop-i-preserved
 loop-i-preserved c = (search rules, search rules, search each_more)

@@ -18,4 +18,4 @@ returns c =
     let d = k in
     let a = d.args in
     fits_says a.p a.b.now a.i.0 a.f.0 d.decode.result k.is_variable.result d.decode.ensures k.is_variable.ensures _ _ c.table_type.result
-    k.if-not-is_variable.false-raw (omega arith) (omega arith) c.file_type-ty.ensures c.table.ensures.0 c.table_type.ensures
+    (search rules) (omega arith) (omega arith) c.file_type-ty.ensures c.table.ensures.0 c.table_type.ensures

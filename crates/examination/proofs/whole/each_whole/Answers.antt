@@ -8,7 +8,7 @@ use Rattle.examination.proofs.whole.each_whole.Goals as goal
 
 -- the turn's block lies within the zone
 
-inside : (c : tie.In-loop invariant-loop decreases-loop) → let a = c.args in c.loop-i.i * a.size + a.size ≤ 1024
+inside : (c : goal.In-loop-i) → let a = c.args in c.loop-i.i * a.size + a.size ≤ 1024
 inside c = block_in _ _ c.requires.block c.loop-i-test.true
 
 pub loop-i-init : goal.loop-i-init

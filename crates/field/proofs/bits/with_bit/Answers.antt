@@ -8,10 +8,10 @@ use Rattle.field.proofs.bits.with_bit.Goals as goal
 
 -- the new bit in its place, and the old one
 
-new : (c : tie.After-bit-of) → c.args.v * c.power-p.result ≤ c.power-p.result
+new : (c : goal.After-bit_of-old) → c.args.v * c.power-p.result ≤ c.power-p.result
 new c = bit_weight c.args.v c.power-p.result (search rules)
 
-old : (c : tie.After-bit-of) → c.bit_of-old.result * c.power-p.result ≤ c.args.x
+old : (c : goal.After-bit_of-old) → c.bit_of-old.result * c.power-p.result ≤ c.args.x
 old c = rw (c.bit_of-old.ensures.0, c.power-p.ensures.0) (bit_part c.args.x c.args.k)
 
 pub overflow_mul-result : goal.overflow_mul-result

@@ -9,7 +9,7 @@ use Rattle.field.proofs.runs.count_each.Goals as goal
 
 -- the count so far, with the step's
 
-sum : (c : tie.After-count-step invariant-loop decreases-loop) → let a = c.args in let l = c.loop-i in
+sum : (c : goal.After-count_step-n) → let a = c.args in let l = c.loop-i in
     l.n + c.count_step-n.result ≡ count_bits a.s.now a.base a.from (l.i + c.step-w.result)
 sum c = count_next _ _ _ _ _ _ _ c.loop-i.invariant.1 c.count_step-n.ensures
 

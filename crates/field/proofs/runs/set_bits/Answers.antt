@@ -11,7 +11,7 @@ unfolding set_bits
 loop-i-init c = (search rules, refl, refl)
 
 pub loop-i-preserved : goal.loop-i-preserved
-loop-i-preserved c = (search rules, set_next _ _ _ _ _ _ _ _ c.loop-i.invariant.1 c.set_step.ensures, c.set_step.auto.0 ∙ c.loop-i.invariant.2)
+loop-i-preserved c = (search rules, set_next _ _ _ _ _ _ _ _ c.loop-i.invariant.1 c.set_step.ensures, c.set_step.auto.s ∙ c.loop-i.invariant.2)
 
 pub returns : goal.returns
 returns c =

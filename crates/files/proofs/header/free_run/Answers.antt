@@ -10,17 +10,17 @@ use Rattle.files.proofs.header.free_run.Goals as goal
 
 -- past the test there are sectors
 
-some : (c : tie.Else1) → 0 < c.args.q.count
+some : (c : goal.Else-q-eq0) → 0 < c.args.q.count
 some c = omega (arith, c.if-q-eq0.false)
 
 -- which can be counted
 
-can : (c : tie.Else1) → let a = c.args in Recountable (view_of a.p a.b.now) a.q.start.0 a.q.count
+can : (c : goal.Else-q-eq0) → let a = c.args in Recountable (view_of a.p a.b.now) a.q.start.0 a.q.count
 can c = c.requires.recountable (some c)
 
 -- the entry that is read then is one that can count them
 
-counts : (c : tie.After-zone-entry) → let a = c.args in
+counts : (c : goal.After-zone_entry) → let a = c.args in
     ZoneType c.zone_entry.result.ztype × (c.zone_entry.result.free + a.q.count ≤ 1024)
 counts c =
     let x = c.put_sectors.ensures in

@@ -6,7 +6,7 @@ use Rattle.files.proofs.header.head_file.Goals as goal
 
 -- what is asked of the place
 
-proper : (c : tie.Start) → let a = c.args in (2 ≤ a.k.zone.0) × (a.k.zone.0 < a.p.zones) × (a.k.number + a.n ≤ 1024) × (a.k.free < 65536)
+proper : (c : goal.Start) → let a = c.args in (2 ≤ a.k.zone.0) × (a.k.zone.0 < a.p.zones) × (a.k.number + a.n ≤ 1024) × (a.k.free < 65536)
 proper c =
     let a = c.args in
     let q = c.requires.1.1.1 in

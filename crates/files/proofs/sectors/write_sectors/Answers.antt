@@ -10,7 +10,7 @@ use Rattle.files.proofs.sectors.write_sectors.Goals as goal
 
 -- the turn's spot is a sector
 
-here : (c : tie.In-loop invariant-loop decreases-loop) → let a = c.args in OnSector (view_of a.p a.b.now) c.loop-i.c
+here : (c : goal.In-loop-i) → let a = c.args in OnSector (view_of a.p a.b.now) c.loop-i.c
 here c =
     let s = c in
     moving_here _ _ s.requires.layout s.requires.lawful_some.1 s.args.f.0 _ _ _ _ s.requires.movable _ _ _ c.seek-c.ensures _ _ _ c.loop-i.invariant c.loop-i-test.true

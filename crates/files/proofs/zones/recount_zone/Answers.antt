@@ -7,14 +7,14 @@ use Rattle.files.proofs.zones.recount_zone.Goals as goal
 
 -- past the test the entry's type is one that a zone may have
 
-typed : (c : tie.Else1) → ZoneType c.zone_entry-e.result.ztype
+typed : (c : goal.Else-not-is_zone_type) → ZoneType c.zone_entry-e.result.ztype
 typed c = passed c.is_zone_type.result c.is_zone_type.ensures c.if-not-is_zone_type.false
 
 pub returns-then-not-is_zone_type : goal.returns-then-not-is_zone_type
 returns-then-not-is_zone_type c =
     let z = c.is_zone_type in
     let e = c.zone_entry-e in
-    zone_other _ _ _ e.result e.ensures z.result z.ensures c.if-not-is_zone_type.true-raw
+    zone_other _ _ _ e.result e.ensures z.result z.ensures (search rules)
 
 pub clear_blocks-n-requires : goal.clear_blocks-n-requires
 clear_blocks-n-requires c = record { layout = search rules; le_z = search rules; zone_type = typed c }

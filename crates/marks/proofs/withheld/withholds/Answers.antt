@@ -16,7 +16,7 @@ pub returns-then-not-in_list : goal.returns-then-not-in_list
 returns-then-not-in_list c = search list_stops
 
 pub loop-k-preserved : goal.loop-k-preserved
-loop-k-preserved c = (search rules, below_more _ _ c.loop-k.invariant.1 (λ h. passed c.in_List.result c.in_List.ensures c.if-not-in_list.false-raw))
+loop-k-preserved c = (search rules, below_more _ _ c.loop-k.invariant.1 (λ h. passed c.in_list.result c.in_list.ensures (search rules)))
 
 pub returns : goal.returns
 returns c = search list_ends

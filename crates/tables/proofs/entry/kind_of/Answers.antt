@@ -9,7 +9,7 @@ returns-then-word-eq0 c = simp (eq-eqb _ _ c.if-word-eq0.true)
 
 pub returns-then-word-i : goal.returns-then-word-i
 unfolding kind_of
-returns-then-word-i c = simp (ne_eqb _ _ c.if-word-eq0.false, eq-eqb _ _ c.if-word-i.true, c.type_size.ensures)
+returns-then-word-i c = simp (ne_eqb _ _ c.if-word-eq0.false, eq-eqb _ _ c.if-word-i.true, c.size_of.ensures)
 
 pub returns-then-word-minus : goal.returns-then-word-minus
 unfolding kind_of

@@ -1,17 +1,18 @@
 use Rattle.tables.proofs.OpenLaws.{open_untyped, open_other, open_typed}
 use Rattle.field.proofs.Tests.{passed, refused}
+use borrow.Author.Rules.{rules}
 use Rattle.tables.proofs.open.is_open.Goals as goal
 
 pub returns-then-t-eq0 : goal.returns-then-t-eq0
 returns-then-t-eq0 c = open_untyped _ c.if-t-eq0.true
 
 pub returns-then-not-is_zone_type : goal.returns-then-not-is_zone_type
-returns-then-not-is_zone_type c = open_other _ c.if-t-eq0.false (refused c.is_zone_type.result c.is_zone_type.ensures c.if-not-is_zone_type.true-raw)
+returns-then-not-is_zone_type c = open_other _ c.if-t-eq0.false (refused c.is_zone_type.result c.is_zone_type.ensures (search rules))
 
 pub zone_blocks-requires : goal.zone_blocks-requires
-zone_blocks-requires c = passed c.is_zone_type.result c.is_zone_type.ensures c.if-not-is_zone_type.false-raw
+zone_blocks-requires c = passed c.is_zone_type.result c.is_zone_type.ensures (search rules)
 
 pub returns : goal.returns
 returns c =
     let z = c in
-    open_typed _ _ (passed z.is_zone_type.result z.is_zone_type.ensures z.if-not-is_zone_type.false-raw) c.zone_blocks.ensures
+    open_typed _ _ (passed z.is_zone_type.result z.is_zone_type.ensures (search rules)) c.zone_blocks.ensures

@@ -7,7 +7,7 @@ use mathlib.Core.Path.{◌≡◌}
 use Rattle.tables.proofs.open.open_zones.Given as goal
 
 abbrev pub invariant-loop-k : goal.invariant-loop-k
-invariant-loop-k l = (l.k ≤ l.last) × (l.n ≡ sum_to l.k (λ l.k. only_if (is_open (zone_at l.p l.b (l.k + 2))) 1)) × (l.n ≤ l.k)
+invariant-loop-k l = (l.k ≤ l.last) × (l.n ≡ sum_to l.k (λ k. only_if (is_open (zone_at l.p l.b (k + 2))) 1)) × (l.n ≤ l.k)
 
 abbrev pub decreases-loop-k : goal.decreases-loop-k
 decreases-loop-k l = l.last - l.k

@@ -12,7 +12,7 @@ unfolding sum_to
 loop-i-init c = (search rules, refl, search rules)
 
 pub loop-i-preserved : goal.loop-i-preserved
-loop-i-preserved c = (search rules, lacks_more _ c.args.t3 _ _ c.loop-i.invariant.1 _ c.lack_of-n.ensures.0, omega arith)
+loop-i-preserved c = (search rules, lacks_more _ c.args.counts _ _ c.loop-i.invariant.1 _ c.lack_of-n.ensures.0, omega arith)
 
 pub returns : goal.returns
-returns c = lacks_say _ c.args.t3 _ _ c.loop-i.invariant.1 _ (omega arith) c.open_zones.ensures.0
+returns c = lacks_say _ c.args.counts _ _ c.loop-i.invariant.1 _ (omega arith) c.open_zones.ensures.0

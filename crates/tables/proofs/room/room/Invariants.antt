@@ -6,7 +6,7 @@ use mathlib.Core.Path.{◌≡◌}
 use Rattle.tables.proofs.room.room.Given as goal
 
 abbrev pub invariant-loop-i : goal.invariant-loop-i
-invariant-loop-i l = (l.i ≤ 6) × (l.n ≡ sum_to l.i (λ l.i. lack_of (view_of l.p l.b) (l.i + 3) (count_at l.counts (l.i + 3)))) × (l.n ≤ l.i * 4294968319)
+invariant-loop-i l = (l.i ≤ 6) × (l.n ≡ sum_to l.i (λ i. lack_of (view_of l.p l.b) (i + 3) (count_at l.counts (i + 3)))) × (l.n ≤ l.i * 4294968319)
 
 abbrev pub decreases-loop-i : goal.decreases-loop-i
 decreases-loop-i l = 6 - l.i

@@ -6,7 +6,7 @@ use mathlib.Core.Path.{◌≡◌}
 use Rattle.tables.proofs.room.spare_of.Given as goal
 
 abbrev pub invariant-loop-i : goal.invariant-loop-i
-invariant-loop-i l = (l.i ≤ l.last) × (l.n ≡ sum_to l.i (λ l.i. spare_in l.t (zone_at l.p l.b (l.i + 2)))) × (l.n ≤ l.i * 4294967295)
+invariant-loop-i l = (l.i ≤ l.last) × (l.n ≡ sum_to l.i (λ i. spare_in l.t (zone_at l.p l.b (i + 2)))) × (l.n ≤ l.i * 4294967295)
 
 abbrev pub decreases-loop-i : goal.decreases-loop-i
 decreases-loop-i l = l.last - l.i

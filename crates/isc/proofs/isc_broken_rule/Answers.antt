@@ -3,8 +3,7 @@ use Rattle.isc.proofs.isc_broken_rule.Goals as goal
 
 pub returns-in-Found : goal.returns-in-Found
 returns-in-Found c =
-    let k = c in
-    broken_found _ _ _ k.broken_rule-found.ensures _ _ _ _ k.in-Found.is c.rule_of.ensures c.place_kind_of.ensures c.place_of.ensures
+    broken_found _ _ _ c.broken_rule-found.ensures _ _ _ _ c.in-Found.is c.rule_of.ensures c.place_kind_of.ensures c.place_of.ensures
 
 pub returns-in-Refused : goal.returns-in-Refused
 returns-in-Refused c = broken_refused _ _ _ c.broken_rule-found.ensures _ c.in-Refused.is

@@ -6,6 +6,5 @@ use Rattle.isc.proofs.isc_grow.Goals as goal
 
 pub returns : goal.returns
 returns c =
-    let a = c in
-    let e : c.amount_of.result ≡ amount_of a.args.length = c.amount_of.ensures ∙ ap amount_of (to_z-of_z a.ranges.length) in
-    grow_border _ _ _ _ _ a.args.length _ _ e c.grow.ensures
+    let e : c.amount_of.result ≡ amount_of c.args.length = c.amount_of.ensures ∙ ap amount_of (to_z-of_z c.ranges.length) in
+    grow_border _ _ _ _ _ c.args.length _ _ e c.grow.ensures

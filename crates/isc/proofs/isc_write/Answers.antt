@@ -8,13 +8,12 @@ use Rattle.isc.proofs.isc_write.Goals as goal
 
 pub returns : goal.returns
 returns c =
-    let a = c in
-    let e₁ : c.amount_of-at.result ≡ amount_of a.args.position = c.amount_of-at.ensures ∙ ap amount_of (to_z-of_z a.ranges.position) in
-    let e₂ : c.amount_of-long.result ≡ amount_of a.args.length = c.amount_of-long.ensures ∙ ap amount_of (to_z-of_z a.ranges.length) in
+    let e₁ : c.amount_of-at.result ≡ amount_of c.args.position = c.amount_of-at.ensures ∙ ap amount_of (to_z-of_z c.ranges.position) in
+    let e₂ : c.amount_of-long.result ≡ amount_of c.args.length = c.amount_of-long.ensures ∙ ap amount_of (to_z-of_z c.ranges.length) in
     answer_out
-    (λ r. Wrote a.args.books.now a.args.withheld.now a.args.body.now a.args.id (amount_of a.args.position) (amount_of a.args.length) (asked a.args.exchange) a.args.input.now a.args.date.now r _ _)
+    (λ r. Wrote c.args.books.now c.args.withheld.now c.args.body.now c.args.id (amount_of c.args.position) (amount_of c.args.length) (asked c.args.exchange) c.args.input.now c.args.date.now r _ _)
     c.write-answer.result
     _
     _
-    (write_border _ _ _ _ _ _ _ a.args.id a.args.position a.args.length _ _ _ _ e₁ e₂ c.write-answer.ensures)
+    (write_border _ _ _ _ _ _ _ c.args.id c.args.position c.args.length _ _ _ _ e₁ e₂ c.write-answer.ensures)
     c.hand_back.ensures

@@ -13,11 +13,10 @@ inside c = block_inside _ _ _ c.block_sectors-size.ensures.0 c.block_sectors-siz
 
 -- the block after those that are passed over
 
-over : (c : goal.Else-used-eq0) → let k = c.loop-k.k in let s = c in
-    k + ceil c.used_ahead-used.result s.block_sectors-size.result ≤ c.zone_blocks-last.result
+over : (c : goal.Else-used-eq0) → let k = c.loop-k.k in
+    k + ceil c.used_ahead-used.result c.block_sectors-size.result ≤ c.zone_blocks-last.result
 over c =
-    let s = c in
-    passed_in _ _ _ _ _ s.block_sectors-size.ensures.0 s.block_sectors-size.ensures.1 c.zone_blocks-last.ensures (omega arith)
+    passed_in _ _ _ _ _ c.block_sectors-size.ensures.0 c.block_sectors-size.ensures.1 c.zone_blocks-last.ensures (omega arith)
     (omega (arith, inside c, c.used_ahead-used.ensures.few))
 
 pub loop-k-init : goal.loop-k-init
@@ -38,12 +37,11 @@ used_ahead-used-requires c = record { layout = search rules; left_nonzero = (ome
 pub returns-then-used-eq0 : goal.returns-then-used-eq0
 returns-then-used-eq0 c =
     let l = c.loop-k in
-    let s = c in
-    let a = s.args in
+    let a = c.args in
     let v = view_of a.p a.b.now in
-    let none = clear_none v a.t a.z.0 _ _ s.first_sector-first.ensures s.block_sectors-size.ensures.0 a.from l.k l.invariant.2 in
+    let none = clear_none v a.t a.z.0 _ _ c.first_sector-first.ensures c.block_sectors-size.ensures.0 a.from l.k l.invariant.2 in
     search_hit _ a.from _ l.k l.invariant.0 (omega arith) none (omega arith)
-    (clear_yes v a.t a.z.0 _ _ s.first_sector-first.ensures s.block_sectors-size.ensures.0 l.k _ refl (c.used_ahead-used.ensures.clear c.if-used-eq0.true))
+    (clear_yes v a.t a.z.0 _ _ c.first_sector-first.ensures c.block_sectors-size.ensures.0 l.k _ refl (c.used_ahead-used.ensures.clear c.if-used-eq0.true))
 
 pub overflow_add-k : goal.overflow_add-k
 overflow_add-k c = omega (arith, inside c, c.used_ahead-used.ensures.few)
@@ -57,18 +55,16 @@ loop-k-smaller c = omega (arith, passed_some _ _ c.block_sectors-size.ensures.1.
 pub loop-k-preserved : goal.loop-k-preserved
 loop-k-preserved c =
     let l = c.loop-k in
-    let s = c in
-    let a = s.args in (
+    let a = c.args in (
       omega arith,
       over c,
-      clear_more (view_of a.p a.b.now) a.t a.z.0 _ _ s.first_sector-first.ensures s.block_sectors-size.ensures.0 a.from l.k l.invariant.2
-          _ s.block_sectors-size.ensures.1.some c.used_ahead-used.ensures.set,
+      clear_more (view_of a.p a.b.now) a.t a.z.0 _ _ c.first_sector-first.ensures c.block_sectors-size.ensures.0 a.from l.k l.invariant.2
+          _ c.block_sectors-size.ensures.1.some c.used_ahead-used.ensures.set,
     )
 
 pub returns : goal.returns
 returns c =
     let l = c.loop-k in
-    let s = c in
-    let a = s.args in
-    let none = clear_none (view_of a.p a.b.now) a.t a.z.0 _ _ s.first_sector-first.ensures s.block_sectors-size.ensures.0 a.from l.k l.invariant.2 in
+    let a = c.args in
+    let none = clear_none (view_of a.p a.b.now) a.t a.z.0 _ _ c.first_sector-first.ensures c.block_sectors-size.ensures.0 a.from l.k l.invariant.2 in
     search_end _ a.from _ l.k l.invariant.0 (omega arith) none (omega arith)

@@ -6,5 +6,4 @@ returns-then-spare_in-eq0 c = fitting_none _ _ _ _ _ c.zone_entry.ensures c.spar
 
 pub returns : goal.returns
 returns c =
-    let s = c in
-    fitting_run _ _ _ _ _ s.zone_entry.ensures s.spare_in.ensures.0 _ c.if-spare_in-eq0.false c.clear_run.ensures.0
+    fitting_run _ _ _ _ _ c.zone_entry.ensures c.spare_in.ensures.0 _ c.if-spare_in-eq0.false c.clear_run.ensures.0

@@ -11,9 +11,8 @@ zone_entry-requires c = let z = c.fitting_zone-z in record { layout = search rul
 
 pub returns-then-z-p : goal.returns-then-z-p
 returns-then-z-p c =
-    let i = c in
-    let z = i.fitting_zone-z in
-    place_here _ _ z.result z.ensures _ _ _ i.if-z-p.true c.clear_run.ensures.0 c.zone_entry.ensures c.without.ensures
+    let z = c.fitting_zone-z in
+    place_here _ _ z.result z.ensures _ _ _ c.if-z-p.true c.clear_run.ensures.0 c.zone_entry.ensures c.without.ensures
 
 pub returns : goal.returns
 returns c =

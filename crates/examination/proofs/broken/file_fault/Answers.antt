@@ -10,8 +10,6 @@ returns-then-is_fault-2 c = search (fault_first, fault_rest, sector_verdict, ind
 
 pub returns : goal.returns
 returns c =
-    let files = c in
-    let sectors = files in
     let counts = counts_verdict _ _ c.rule9.result c.rule9.ensures c.in_count.ensures in
-    fault_rest _ _ sectors.in_sector-sectors.result _ (search sector_verdict) sectors.is_fault.ensures c.in_count.result sectors.if-is_fault.false
-    (fault_rest _ _ files.in_index-files.result _ (search index_verdict) files.is_fault-2.ensures c.in_count.result files.if-is_fault-2.false (fault_only _ _ counts))
+    fault_rest _ _ c.in_sector-sectors.result _ (search sector_verdict) c.is_fault.ensures c.in_count.result c.if-is_fault.false
+    (fault_rest _ _ c.in_index-files.result _ (search index_verdict) c.is_fault-2.ensures c.in_count.result c.if-is_fault-2.false (fault_only _ _ counts))

@@ -16,7 +16,5 @@ returns-then-parent-of c = search child_strange
 
 pub returns : goal.returns
 returns c =
-    let m = c in
-    let k = m in
-    child_lawful _ _ _ k.requires.met_up_to k.child_number.result k.child_number.ensures (search rules) _ m.table-t.ensures.0 _ c.parent.ensures
-    m.if-of-eq0.false c.if-of-eq-TWICE.false c.if-parent-of.false c.some_used.result c.some_used.ensures
+    child_lawful _ _ _ c.requires.met_up_to c.child_number.result c.child_number.ensures (search rules) _ c.table-t.ensures.0 _ c.parent.ensures
+    c.if-of-eq0.false c.if-of-eq-TWICE.false c.if-parent-of.false c.some_used.result c.some_used.ensures

@@ -10,8 +10,5 @@ returns-then-not-child_number c = search link_astray
 
 pub returns : goal.returns
 returns c =
-    let n = c in
-    let a = n in
-    let k = a in
-    link_full _ _ k.in_chain.result k.in_chain.ensures _ a.next_of-at.ensures (search rules) n.if-at-eq0.false n.child_number.result n.child_number.ensures (search rules)
+    link_full _ _ c.in_chain.result c.in_chain.ensures _ c.next_of-at.ensures (search rules) c.if-at-eq0.false c.child_number.result c.child_number.ensures (search rules)
     c.is_full.result c.is_full.ensures

@@ -18,7 +18,7 @@ pub bounds-met-k-in-loop-p-2 : goal.bounds-met-k-in-loop-p-2
 bounds-met-k-in-loop-p-2 c = search note_in
 
 pub next_of-at-requires-in-loop-p : goal.next_of-at-requires-in-loop-p
-next_of-at-requires-in-loop-p c = let t = c in record { layout = search rules; le_i = number_in _ _ t.child_number.result t.child_number.ensures t.loop-p-test.true }
+next_of-at-requires-in-loop-p c = record { layout = search rules; le_i = number_in _ _ c.child_number.result c.child_number.ensures c.loop-p-test.true }
 
 pub loop-p-smaller : goal.loop-p-smaller
 loop-p-smaller c = search (left_less, number_small)

@@ -16,11 +16,7 @@ returns-then-not-date_valid c = search not_created
 
 pub returns : goal.returns
 returns c =
-    let d = c in
-    let w = d in
-    let z = w in
-    let n = z in
-    sound_says _ _ _ _ c.date_valid-2.result n.name_valid.result z.size_valid.result w.weights_valid.result d.date_valid.result _ _ _ _ _
-    n.name.ensures.0 n.name_valid.ensures (search rules) z.byte_length.ensures z.size_valid.ensures (search rules)
-    w.attribute.ensures.0 w.weights_valid.ensures (search rules) d.creation_date.ensures.0 d.date_valid.ensures (search rules)
+    sound_says _ _ _ _ c.date_valid-2.result c.name_valid.result c.size_valid.result c.weights_valid.result c.date_valid.result _ _ _ _ _
+    c.name.ensures.0 c.name_valid.ensures (search rules) c.byte_length.ensures c.size_valid.ensures (search rules)
+    c.attribute.ensures.0 c.weights_valid.ensures (search rules) c.creation_date.ensures.0 c.date_valid.ensures (search rules)
     c.change_date.ensures.0 c.date_valid-2.ensures

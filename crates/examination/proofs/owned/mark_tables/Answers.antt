@@ -10,13 +10,11 @@ loop-i-init c = (search rules, search all_none)
 
 pub mark_table-low-requires : goal.mark_table-low-requires
 mark_table-low-requires c =
-    let s = c in
-    table_fits s.args.p s.args.b.now s.requires.layout s.requires.r6 _ _ _ (omega arith) (omega arith) c.table-t.ensures.0 c.loop-i.invariant.1.long
+    table_fits c.args.p c.args.b.now c.requires.layout c.requires.r6 _ _ _ (omega arith) (omega arith) c.table-t.ensures.0 c.loop-i.invariant.1.long
 
 pub loop-i-preserved : goal.loop-i-preserved
 loop-i-preserved c =
-    let t = c in
-    (search rules, all_more _ _ _ _ _ _ t.loop-i.invariant.1 _ _ _ t.table-t.ensures.0 c.mark_table-low.ensures)
+    (search rules, all_more _ _ _ _ _ _ c.loop-i.invariant.1 _ _ _ c.table-t.ensures.0 c.mark_table-low.ensures)
 
 pub returns : goal.returns
 returns c = search all_end

@@ -15,8 +15,7 @@ mark_below-low-requires c = record { m_len = search rules; count_bound = search 
 
 pub loop-j-preserved : goal.loop-j-preserved
 loop-j-preserved c =
-    let q = c in
-    (search rules, pointers_more _ _ _ _ _ _ _ q.loop-j.invariant.1 q.pointer_at-q.result _ _ q.pointer_at-q.ensures.0 c.mark_below-low.ensures)
+    (search rules, pointers_more _ _ _ _ _ _ _ c.loop-j.invariant.1 c.pointer_at-q.result _ _ c.pointer_at-q.ensures.0 c.mark_below-low.ensures)
 
 pub returns : goal.returns
 returns c = search pointers_end

@@ -14,8 +14,6 @@ table_type-requires c = record { layout = search rules; t_len = search rules; sh
 
 pub returns : goal.returns
 returns c =
-    let k = c in
-    let d = k in
-    let a = d.args in
-    fits_says a.p a.b.now a.i.0 a.f.0 d.decode.result k.is_variable.result d.decode.ensures k.is_variable.ensures _ _ c.table_type.result
+    let a = c.args in
+    fits_says a.p a.b.now a.i.0 a.f.0 c.decode.result c.is_variable.result c.decode.ensures c.is_variable.ensures _ _ c.table_type.result
     (search rules) (omega arith) (omega arith) c.file_type-ty.ensures c.table.ensures.0 c.table_type.ensures

@@ -25,11 +25,9 @@ counts : (c : goal.After-zone_entry) → let a = c.args in
 counts c =
     let x = c.put_sectors.ensures in
     let z = c.zone_of-z.ensures in
-    let i = c in
-    let s = i in
-    let h = can i in (
-      entry_typed s.args.p s.args.b.now _ _ s.requires.layout _ x (omega (arith, h.high)) h _ z _ c.zone_entry.ensures,
-      entry_few s.args.p s.args.b.now _ _ s.requires.layout _ x (omega (arith, h.high)) h _ z _ c.zone_entry.ensures,
+    let h = can c in (
+      entry_typed c.args.p c.args.b.now _ _ c.requires.layout _ x (omega (arith, h.high)) h _ z _ c.zone_entry.ensures,
+      entry_few c.args.p c.args.b.now _ _ c.requires.layout _ x (omega (arith, h.high)) h _ z _ c.zone_entry.ensures,
     )
 
 pub returns-then-q-eq0 : goal.returns-then-q-eq0
@@ -46,17 +44,12 @@ pub recounted-e-requires : goal.recounted-e-requires
 recounted-e-requires c = let asks = counts c in record { zone_type = asks.0; n_bound = asks.1 }
 
 pub put_zone-requires : goal.put_zone-requires
-put_zone-requires c = let e = c in
-    let z = e.zone_of-z.ensures in
-    let x = e in
-    let i = e in
-    let a = i.args in
-    let small = zone_small a.p _ _ e.zone_entry.result e.zone_entry.ensures (λ j. omega (arith, c.type_inv.b j)) _ (counts e).0 (counts e).1 _ c.recounted-e.ensures in record { layout = search rules; le_z = (omega (arith, z), omega (arith, z, (can i).high, some i)); t_bound = small }
+put_zone-requires c =
+    let z = c.zone_of-z.ensures in
+    let a = c.args in
+    let small = zone_small a.p _ _ c.zone_entry.result c.zone_entry.ensures (λ j. omega (arith, c.type_inv.b j)) _ (counts c).0 (counts c).1 _ c.recounted-e.ensures in record { layout = search rules; le_z = (omega (arith, z), omega (arith, z, (can c).high, some c)); t_bound = small }
 
 pub returns : goal.returns
 returns c =
-    let e = c in
-    let i = e in
-    let s = i in
-    run_put s.args.p s.args.b.now _ _ s.requires.layout _ e.put_sectors.ensures (omega (arith, (can i).high)) (some i) _ e.zone_of-z.ensures
-    _ e.zone_entry.ensures _ c.recounted-e.ensures _ c.put_zone.ensures
+    run_put c.args.p c.args.b.now _ _ c.requires.layout _ c.put_sectors.ensures (omega (arith, (can c).high)) (some c) _ c.zone_of-z.ensures
+    _ c.zone_entry.ensures _ c.recounted-e.ensures _ c.put_zone.ensures

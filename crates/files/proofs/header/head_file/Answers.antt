@@ -17,28 +17,19 @@ put_run-requires c = record { layout = search rules; le_zone = proper c }
 
 pub run_start-requires : goal.run_start-requires
 run_start-requires c =
-    let s = c in
-    let h = proper s in
-    (omega (arith, h.0), omega (arith, h.1, s.requires.layout), omega (arith, h.2))
+    let h = proper c in
+    (omega (arith, h.0), omega (arith, h.1, c.requires.layout), omega (arith, h.2))
 
 pub free_run-requires : goal.free_run-requires
-free_run-requires c = let r = c in
-    let x = r in
-    let o = x in
-    let s = o in
-    let a = s.args in
-    let q = s.requires.1.1.1 in record { layout = search rules; recountable = head_countable a.p a.b.now s.requires.layout s.requires.lawful_some.1 a.f.0 s.requires.parent a.n c.requires.le_n.0 c.requires.le_n.1 a.k c.requires.k_value.0 c.requires.k_value.1
-          _ _ _ r.run_start.result o.pointer_at-old.result o.table.ensures.0 o.pointer_at-old.ensures.0 x.put_run.ensures r.run_start.ensures c.put_pointer.ensures }
+free_run-requires c =
+    let a = c.args in
+    let q = c.requires.1.1.1 in record { layout = search rules; recountable = head_countable a.p a.b.now c.requires.layout c.requires.lawful_some.1 a.f.0 c.requires.parent a.n c.requires.le_n.0 c.requires.le_n.1 a.k c.requires.k_value.0 c.requires.k_value.1
+          _ _ _ c.run_start.result c.pointer_at-old.result c.table.ensures.0 c.pointer_at-old.ensures.0 c.put_run.ensures c.run_start.ensures c.put_pointer.ensures }
 
 pub returns : goal.returns
 returns c =
-    let y = c in
-    let r = y in
-    let x = r in
-    let o = x in
-    let s = o in
-    let a = s.args in
-    let q = s.requires.1.1.1 in
-    head_done a.p a.b.now s.requires.layout s.requires.lawful_some.1 a.f.0 s.requires.parent a.n c.requires.le_n.0 c.requires.le_n.1 a.k c.requires.k_value.0 c.requires.k_value.1
-    _ _ _ r.run_start.result o.pointer_at-old.result o.table.ensures.0 o.pointer_at-old.ensures.0 x.put_run.ensures r.run_start.ensures y.put_pointer.ensures
+    let a = c.args in
+    let q = c.requires.1.1.1 in
+    head_done a.p a.b.now c.requires.layout c.requires.lawful_some.1 a.f.0 c.requires.parent a.n c.requires.le_n.0 c.requires.le_n.1 a.k c.requires.k_value.0 c.requires.k_value.1
+    _ _ _ c.run_start.result c.pointer_at-old.result c.table.ensures.0 c.pointer_at-old.ensures.0 c.put_run.ensures c.run_start.ensures c.put_pointer.ensures
     _ c.free_run.ensures

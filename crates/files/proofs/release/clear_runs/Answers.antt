@@ -5,9 +5,8 @@ use Rattle.files.proofs.release.clear_runs.Goals as goal
 
 pub loop-j-init : goal.loop-j-init
 loop-j-init c =
-    let s = c in
     let t = c.table.ensures.0 in
-    clearing_none s.args.p s.args.b.now s.args.i.0 _ _ _ _ s.requires.layout s.requires.runs_within t c.slots-n.ensures.0 c.table-2.ensures.0 c.base-at.ensures.0
+    clearing_none c.args.p c.args.b.now c.args.i.0 _ _ _ _ c.requires.layout c.requires.runs_within t c.slots-n.ensures.0 c.table-2.ensures.0 c.base-at.ensures.0
 
 pub pointer_at-q-requires : goal.pointer_at-q-requires
 pointer_at-q-requires c = record { t_len = search rules; at_bound = search clearing_place }
@@ -17,9 +16,7 @@ put_sectors-requires c = record { layout = search rules; n_bound = (search clear
 
 pub loop-j-preserved : goal.loop-j-preserved
 loop-j-preserved c =
-    let q = c in
-    let l = q in
-    clearing_more _ _ _ _ _ _ _ l.loop-j.invariant l.loop-j-test.true _ _ q.table-in-loop-j.ensures.0 q.pointer_at-q.ensures.0 _ c.put_sectors.ensures
+    clearing_more _ _ _ _ _ _ _ c.loop-j.invariant c.loop-j-test.true _ _ c.table-in-loop-j.ensures.0 c.pointer_at-q.ensures.0 _ c.put_sectors.ensures
 
 pub returns : goal.returns
 returns c = search clearing_end

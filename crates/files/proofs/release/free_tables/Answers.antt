@@ -11,22 +11,19 @@ pub free_table-requires : goal.free_table-requires
 free_table-requires c = record { layout = search freeing_layout; le_i = freeing_in _ _ _ _ _ _ c.loop-i.invariant c.loop-i-test.true; runs_within = search freeing_within }
 
 pub table-requires : goal.table-requires
-table-requires c = let l = c in record { layout = search rules; le_i = freeing_in _ _ _ _ _ _ l.loop-i.invariant l.loop-i-test.true }
+table-requires c = record { layout = search rules; le_i = freeing_in _ _ _ _ _ _ c.loop-i.invariant c.loop-i-test.true }
 
 pub overflow_add-n : goal.overflow_add-n
 overflow_add-n c =
-    let l = c in
-    omega (arith, freeing_few _ _ _ _ _ _ l.loop-i.invariant l.loop-i-test.true)
+    omega (arith, freeing_few _ _ _ _ _ _ c.loop-i.invariant c.loop-i-test.true)
 
 pub loop-i-smaller : goal.loop-i-smaller
 loop-i-smaller c =
-    let l = c in
-    omega (arith, freeing_few _ _ _ _ _ _ l.loop-i.invariant l.loop-i-test.true)
+    omega (arith, freeing_few _ _ _ _ _ _ c.loop-i.invariant c.loop-i-test.true)
 
 pub loop-i-preserved : goal.loop-i-preserved
 loop-i-preserved c =
-    let l = c in
-    freeing_more _ _ _ _ _ _ l.loop-i.invariant l.loop-i-test.true _ _ _ c.free_table.ensures c.table.ensures.0 c.link-i.ensures
+    freeing_more _ _ _ _ _ _ c.loop-i.invariant c.loop-i-test.true _ _ _ c.free_table.ensures c.table.ensures.0 c.link-i.ensures
 
 pub returns : goal.returns
 returns c = freeing_end _ _ _ _ _ _ c.loop-i.invariant c.loop-i-test.false

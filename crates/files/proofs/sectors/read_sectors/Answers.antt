@@ -12,11 +12,10 @@ use Rattle.files.proofs.sectors.read_sectors.Goals as goal
 
 here : (c : goal.In-loop-i) → let a = c.args in OnSector (view_of a.p a.b.now) c.loop-i.c
 here c =
-    let s = c in
-    moving_here _ _ s.requires.layout s.requires.lawful_some.1 s.args.f.0 _ _ _ _ s.requires.movable _ _ _ c.seek-c.ensures _ _ _ c.loop-i.invariant c.loop-i-test.true
+    moving_here _ _ c.requires.layout c.requires.lawful_some.1 c.args.f.0 _ _ _ _ c.requires.movable _ _ _ c.seek-c.ensures _ _ _ c.loop-i.invariant c.loop-i-test.true
 
 pub seek-c-requires : goal.seek-c-requires
-seek-c-requires c = let s = c in record { layout = s.requires.layout; lawful_some = s.requires.lawful_some; parent = s.requires.movable.parent; k_bound = s.requires.movable.some }
+seek-c-requires c = record { layout = c.requires.layout; lawful_some = c.requires.lawful_some; parent = c.requires.movable.parent; k_bound = c.requires.movable.some }
 
 pub loop-i-init : goal.loop-i-init
 unfolding fetched
@@ -69,13 +68,11 @@ loop-i-smaller c = omega arith
 
 pub loop-i-preserved : goal.loop-i-preserved
 loop-i-preserved c =
-    let t = c in
-    let l = t.loop-i in
+    let l = c.loop-i in
     let w = c.move_sector in
-    let s = t in
-    moving_more _ _ _ _ _ _ _ _ _ l.invariant t.loop-i-test.true _ c.onward-c.ensures (1024 * l.i) w.new.0 (omega (arith, t.spot_place-a.ensures.1, s.requires.movable.body', s.requires.movable.buffer, l.invariant.len, t.loop-i-test.true))
+    moving_more _ _ _ _ _ _ _ _ _ l.invariant c.loop-i-test.true _ c.onward-c.ensures (1024 * l.i) w.new.0 (omega (arith, c.spot_place-a.ensures.1, c.requires.movable.body', c.requires.movable.buffer, l.invariant.len, c.loop-i-test.true))
     (w.auto.0 ∙ simp (length-take, length-drop) (omega arith))
-    (λ f at. read_more _ _ _ _ _ _ _ at t.spot_place-a.ensures.0 _ _ _ w.ensures)
+    (λ f at. read_more _ _ _ _ _ _ _ at c.spot_place-a.ensures.0 _ _ _ w.ensures)
 
 pub shape_of-out : goal.shape_of-out
 shape_of-out c = omega arith

@@ -6,10 +6,9 @@ use Rattle.files.proofs.zones.clear_blocks.Goals as goal
 
 pub returns : goal.returns
 returns c =
-    let s = c in
     let first = c.first_sector-first.ensures in
     let size = c.block_sectors.ensures in
     let set = c.count_bits-set.ensures in (
       omega (arith, div-le_self (1024 - c.count_bits-set.result) c.block_sectors.result),
-      rw first at (clear_count s.args.p s.args.b.now _ s.args.t _ _ set.0 size.0 size.1),
+      rw first at (clear_count c.args.p c.args.b.now _ c.args.t _ _ set.0 size.0 size.1),
     )

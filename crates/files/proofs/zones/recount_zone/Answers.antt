@@ -26,14 +26,11 @@ pub recounted-x-requires : goal.recounted-x-requires
 recounted-x-requires c = record { zone_type = typed c; n_bound = search rules }
 
 pub put_zone-requires : goal.put_zone-requires
-put_zone-requires c = let k = c in
-    let i = k in
-    let e = i in
-    let s = e in
-    let a = s.args in
+put_zone-requires c =
+    let a = c.args in
     let small =
-    zone_small a.p a.b.now a.z.0 e.zone_entry-e.result e.zone_entry-e.ensures (λ j. omega (arith, s.slice_known-1.given j)) _ (typed i)
-    (omega (arith, k.clear_blocks-n.ensures.0, c.if-n-e.false)) _ c.recounted-x.ensures in record { layout = search rules; le_z = search rules; t_bound = small }
+    zone_small a.p a.b.now a.z.0 c.zone_entry-e.result c.zone_entry-e.ensures (λ j. omega (arith, c.slice_known-1.given j)) _ (typed c)
+    (omega (arith, c.clear_blocks-n.ensures.0, c.if-n-e.false)) _ c.recounted-x.ensures in record { layout = search rules; le_z = search rules; t_bound = small }
 
 pub returns : goal.returns
 returns c = search zone_more

@@ -12,8 +12,7 @@ loop-k-init c = (search rules, λ j l h. absurd (omega arith))
 
 pub returns-then-word_at-m : goal.returns-then-word_at-m
 returns-then-word_at-m c =
-    let s = c in
-    let a = s.args in
+    let a = c.args in
     agrees_stop a.b.now (λ j. omega (arith, c.type_inv.b j)) a.p a.m.now c.loop-k.k c.word_at.result
     (λ j. omega (arith, c.type_inv.m j)) (search rules) (search rules) c.word_at.ensures c.if-word_at-m.true
 

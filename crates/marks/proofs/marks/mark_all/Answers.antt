@@ -10,8 +10,7 @@ loop-i-init c = (search rules, tables_none _ _)
 
 pub mark_claims-requires : goal.mark_claims-requires
 mark_claims-requires c =
-    let s = c in
-    table_fits s.args.p s.args.b.now s.requires.layout s.requires.r6 _ _ _ (omega arith) (omega arith) c.table-t.ensures.0 (c.loop-i.invariant.1.len ∙ s.requires.m_len)
+    table_fits c.args.p c.args.b.now c.requires.layout c.requires.r6 _ _ _ (omega arith) (omega arith) c.table-t.ensures.0 (c.loop-i.invariant.1.len ∙ c.requires.m_len)
 
 pub returns-then-not-mark_claims : goal.returns-then-not-mark_claims
 returns-then-not-mark_claims c = search tables_stop

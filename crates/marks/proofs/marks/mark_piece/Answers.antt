@@ -10,13 +10,11 @@ returns-then-rest-met c = search piece_stop
 
 pub overflow_sub-m : goal.overflow_sub-m
 overflow_sub-m c =
-    let s = c in
-    piece_order s.args.m.now s.args.at.0 s.args.w _ s.requires.in_word refl _ _ c.behind_low-on.ensures c.behind_high-rest.ensures
+    piece_order c.args.m.now c.args.at.0 c.args.w _ c.requires.in_word refl _ _ c.behind_low-on.ensures c.behind_high-rest.ensures
 
 pub overflow_add-m : goal.overflow_add-m
 overflow_add-m c =
-    let s = c in
-    omega (arith, piece_fits s.args.m.now s.args.at.0 s.args.w _ s.requires.in_word refl _ _ c.behind_low-on.ensures c.behind_high-rest.ensures (search rules) (omega (arith, c.type_inv.m (s.args.at.0 / 64))))
+    omega (arith, piece_fits c.args.m.now c.args.at.0 c.args.w _ c.requires.in_word refl _ _ c.behind_low-on.ensures c.behind_high-rest.ensures (search rules) (omega (arith, c.slice_known-1.given (c.args.at.0 / 64))))
 
 pub returns : goal.returns
 returns c = search piece_added

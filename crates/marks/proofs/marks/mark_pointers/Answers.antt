@@ -20,9 +20,8 @@ returns-then-not-mark_run c = search first_stop
 
 pub loop-j-preserved : goal.loop-j-preserved
 loop-j-preserved c =
-    let l = c in
     let k = c.mark_run in
-    (search rules, first_more _ _ _ _ _ l.loop-j.invariant.1 l.pointer_at-q.result l.pointer_at-q.ensures.0 k.result _ k.ensures (search rules))
+    (search rules, first_more _ _ _ _ _ c.loop-j.invariant.1 c.pointer_at-q.result c.pointer_at-q.ensures.0 k.result _ k.ensures (search rules))
 
 pub returns : goal.returns
 returns c = search first_end

@@ -13,9 +13,7 @@ pub loop-k-preserved : goal.loop-k-preserved
 loop-k-preserved c =
     let run = c.mark_run in
     let block = c.block_from-q in
-    let l = c in
-    let s = l in
-    (search rules, marks_more _ _ _ _ _ l.loop-k.invariant.1 s.requires.withholds s.requires.marks_are l.loop-k-test.true block.result run.result _ block.ensures.0 block.ensures.1 run.ensures)
+    (search rules, marks_more _ _ _ _ _ c.loop-k.invariant.1 c.requires.withholds c.requires.marks_are c.loop-k-test.true block.result run.result _ block.ensures.0 block.ensures.1 run.ensures)
 
 pub returns : goal.returns
 returns c = search marks_end

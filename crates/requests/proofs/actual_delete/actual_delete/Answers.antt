@@ -9,10 +9,10 @@ pub read_places-p-requires : goal.read_places-p-requires
 read_places-p-requires c = search recover_room
 
 pub mark_header-requires : goal.mark_header-requires
-mark_header-requires c = let p = c in let asks = recover_marks _ _ _ _ _ _ p.recover_number-n.ensures p.if-n-ne0.false _ p.read_places-p.ensures in record { layout = asks.0; le_f = asks.1.0; header_in_body = asks.1.1 }
+mark_header-requires c = let asks = recover_marks _ _ _ _ _ _ c.recover_number-n.ensures c.if-n-ne0.false _ c.read_places-p.ensures in record { layout = asks.0; le_f = asks.1.0; header_in_body = asks.1.1 }
 
 pub release_file-requires : goal.release_file-requires
-release_file-requires c = let p = c in let asks = delete_asks _ _ _ _ _ _ p.recover_number-n.ensures p.if-n-ne0.false _ p.read_places-p.ensures in record { layout = asks.0; lawful_some = asks.1.0; parent = asks.1.1.0; f_value = asks.1.1.1.0; date_len = asks.1.1.1.1 }
+release_file-requires c = let asks = delete_asks _ _ _ _ _ _ c.recover_number-n.ensures c.if-n-ne0.false _ c.read_places-p.ensures in record { layout = asks.0; lawful_some = asks.1.0; parent = asks.1.1.0; f_value = asks.1.1.1.0; date_len = asks.1.1.1.1 }
 
 pub returns : goal.returns
 returns c = search delete_done

@@ -12,20 +12,17 @@ put_line-a-requires c =
 pub put_text-c-requires : goal.put_text-c-requires
 unfolding place_lines
 put_text-c-requires c =
-    let k = c in
-    let a = k.args in
-    second_of_three a.s.now 0 (rule_line a.rule) a.kind.now (place_line a.place) (omega (arith, k.requires)) _ _ c.put_line-a.ensures
+    let a = c.args in
+    second_of_three a.s.now 0 (rule_line a.rule) a.kind.now (place_line a.place) (omega (arith, c.requires)) _ _ c.put_line-a.ensures
 
 pub put_line-requires : goal.put_line-requires
 unfolding place_lines
 put_line-requires c =
-    let k = c in
-    let a = k.args in
-    third_of_three a.s.now 0 (rule_line a.rule) a.kind.now (place_line a.place) (omega (arith, k.requires)) _ _ c.put_line-a.ensures _ _ c.put_text-c.ensures
+    let a = c.args in
+    third_of_three a.s.now 0 (rule_line a.rule) a.kind.now (place_line a.place) (omega (arith, c.requires)) _ _ c.put_line-a.ensures _ _ c.put_text-c.ensures
 
 pub returns : goal.returns
 unfolding place_lines
 returns c =
-    let k = c in
-    let a = k.args in
-    put_three a.s.now 0 (rule_line a.rule) a.kind.now (place_line a.place) (omega (arith, k.requires)) _ _ c.put_line-a.ensures _ _ c.put_text-c.ensures _ _ c.put_line.ensures
+    let a = c.args in
+    put_three a.s.now 0 (rule_line a.rule) a.kind.now (place_line a.place) (omega (arith, c.requires)) _ _ c.put_line-a.ensures _ _ c.put_text-c.ensures _ _ c.put_line.ensures

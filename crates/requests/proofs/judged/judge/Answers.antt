@@ -7,15 +7,11 @@ flag-requires c = good_room _ _ (found_good c.args.b.now c.args.withheld.now c.c
 
 pub returns-then-flag-f : goal.returns-then-flag-f
 returns-then-flag-f c =
-    let k = c in
-    let a = k in
-    judge_flag a.args.b.now a.args.withheld.now _ _ _ c.flag.result (found_good a.args.b.now a.args.withheld.now k.check-found.result _ k.check-found.ensures c.in-Fine.is) c.flag.ensures.0 a.requires c.if-flag-f.true
+    judge_flag c.args.b.now c.args.withheld.now _ _ _ c.flag.result (found_good c.args.b.now c.args.withheld.now c.check-found.result _ c.check-found.ensures c.in-Fine.is) c.flag.ensures.0 c.requires c.if-flag-f.true
 
 pub returns-in-Refused : goal.returns-in-Refused
 returns-in-Refused c = judge_refused c.args.b.now c.args.withheld.now _ _ _ (found_bad c.args.b.now c.args.withheld.now c.check-found.result _ c.check-found.ensures c.in-Refused.is)
 
 pub returns-else-flag-f : goal.returns-else-flag-f
 returns-else-flag-f c =
-    let k = c in
-    let a = k in
-    judge_fine a.args.b.now a.args.withheld.now _ _ _ c.flag.result (found_good a.args.b.now a.args.withheld.now k.check-found.result _ k.check-found.ensures c.in-Fine.is) c.flag.ensures.0 c.if-flag-f.false
+    judge_fine c.args.b.now c.args.withheld.now _ _ _ c.flag.result (found_good c.args.b.now c.args.withheld.now c.check-found.result _ c.check-found.ensures c.in-Fine.is) c.flag.ensures.0 c.if-flag-f.false

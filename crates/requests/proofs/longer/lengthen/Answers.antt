@@ -12,9 +12,9 @@ pub grow_counts-counts-requires : goal.grow_counts-counts-requires
 grow_counts-counts-requires c = search (lengthen_good, lengthen_parent)
 
 pub grow_file-requires : goal.grow_file-requires
-grow_file-requires c = let n = c in
-    let start = n in record { provided_some = lengthen_adds _ _ _ _ n.read_places-p.ensures _ n.table.ensures.0 _ n.byte_length.ensures
-          _ start.requires.good_some start.requires.gate c.if-byte_length-long.false c.grow_counts-counts.ensures; parent = search lengthen_parent; date_len = search rules }
+grow_file-requires c =
+    record { provided_some = lengthen_adds _ _ _ _ c.read_places-p.ensures _ c.table.ensures.0 _ c.byte_length.ensures
+          _ c.requires.good_some c.requires.gate c.if-byte_length-long.false c.grow_counts-counts.ensures; parent = search lengthen_parent; date_len = search rules }
 
 pub returns : goal.returns
 returns c = search lengthen_done

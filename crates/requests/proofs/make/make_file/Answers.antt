@@ -11,8 +11,8 @@ pub returns-then-n-ne0 : goal.returns-then-n-ne0
 returns-then-n-ne0 c = search make_refused
 
 pub create_file-requires : goal.create_file-requires
-create_file-requires c = let a = c in
-    let g = good_at _ _ a.requires.good_some c.read_places-p.ensures in record { provided_some = (g.0, none_provides _ _ _ a.args.counts _ g.1 (search rules) c.no_pointer-l.ensures c.room_number-n.ensures c.if-n-ne0.false); name_len_bound = file_fits _ _ _ a.args.variable _ a.requires.variable_bound a.requires.new_file refl }
+create_file-requires c =
+    let g = good_at _ _ c.requires.good_some c.read_places-p.ensures in record { provided_some = (g.0, none_provides _ _ _ c.args.counts _ g.1 (search rules) c.no_pointer-l.ensures c.room_number-n.ensures c.if-n-ne0.false); name_len_bound = file_fits _ _ _ c.args.variable _ c.requires.variable_bound c.requires.new_file refl }
 
 pub returns : goal.returns
 returns c = search make_done

@@ -16,28 +16,25 @@ header_place-k-requires c = record { layout = search placing_layout; le_n = sear
 
 pub run_start-requires : goal.run_start-requires
 run_start-requires c =
-    let k = c in
-    let p = k in
-    placing_start _ _ _ _ _ _ _ p.place_header_number-r.ensures p.if-r-ne0.false _ p.read_places-p.ensures _ k.header_sectors-n.ensures.0 _
-    k.header_place-k.ensures
+    placing_start _ _ _ _ _ _ _ c.place_header_number-r.ensures c.if-r-ne0.false _ c.read_places-p.ensures _ c.header_sectors-n.ensures.0 _
+    c.header_place-k.ensures
 
 pub body_place-requires : goal.body_place-requires
 body_place-requires c = search placing_low
 
 pub lay_header-requires : goal.lay_header-requires
-lay_header-requires c = let k = c in
-    let p = k in
-    let inside = placing_inside _ _ _ _ _ _ _ p.place_header_number-r.ensures p.if-r-ne0.false _ p.read_places-p.ensures _
-    k.header_sectors-n.ensures.0 _ k.header_place-k.ensures _ c.run_start.ensures _ c.body_place.ensures in record { bytes_in_bounds = inside; bytes_len_bound = search placed_few }
+lay_header-requires c =
+    let inside = placing_inside _ _ _ _ _ _ _ c.place_header_number-r.ensures c.if-r-ne0.false _ c.read_places-p.ensures _
+    c.header_sectors-n.ensures.0 _ c.header_place-k.ensures _ c.run_start.ensures _ c.body_place.ensures in record { bytes_in_bounds = inside; bytes_len_bound = search placed_few }
 
 pub mark_header-requires : goal.mark_header-requires
-mark_header-requires c = let l = c in
-    let p = l in let asks = placing_marks _ _ _ _ _ _ _ p.place_header_number-r.ensures p.if-r-ne0.false _ p.read_places-p.ensures l.lay_header.new.0 l.lay_header.auto.0 in record { layout = asks.0; le_f = asks.1.0; header_in_body = asks.1.1 }
+mark_header-requires c =
+    let asks = placing_marks _ _ _ _ _ _ _ c.place_header_number-r.ensures c.if-r-ne0.false _ c.read_places-p.ensures c.lay_header.new.0 c.lay_header.auto.0 in record { layout = asks.0; le_f = asks.1.0; header_in_body = asks.1.1 }
 
 pub put_headed-requires : goal.put_headed-requires
-put_headed-requires c = let k = c in
-    let p = k in let asks = placing_asks _ _ _ _ _ _ _ p.place_header_number-r.ensures p.if-r-ne0.false _ p.read_places-p.ensures _ k.header_sectors-n.ensures.0 _
-    k.header_place-k.ensures in record { good_some = asks.0; parent = asks.1.0; le_n = asks.1.1.0; k_value = asks.1.1.1.0; date_len = asks.1.1.1.1 }
+put_headed-requires c =
+    let asks = placing_asks _ _ _ _ _ _ _ c.place_header_number-r.ensures c.if-r-ne0.false _ c.read_places-p.ensures _ c.header_sectors-n.ensures.0 _
+    c.header_place-k.ensures in record { good_some = asks.0; parent = asks.1.0; le_n = asks.1.1.0; k_value = asks.1.1.1.0; date_len = asks.1.1.1.1 }
 
 pub returns : goal.returns
 returns c = search placing_done

@@ -20,7 +20,7 @@ pub header_sectors-requires : goal.header_sectors-requires
 header_sectors-requires c = search placing_few
 
 pub header_place-k-requires : goal.header_place-k-requires
-header_place-k-requires c = let p = c in record { layout = (lent_good_at _ _ _ _ _ p.lent_number-n.ensures p.if-n-ne0.false _ p.read_places-p.ensures).1.layout; le_n = search rules }
+header_place-k-requires c = record { layout = (lent_good_at _ _ _ _ _ c.lent_number-n.ensures c.if-n-ne0.false _ c.read_places-p.ensures).1.layout; le_n = search rules }
 
 pub returns-then-k-p : goal.returns-then-k-p
 returns-then-k-p c = search placing_full

@@ -27,7 +27,7 @@ unfolding show_header_tests
 returns-then-m-ne0 c = search (use_goes, body_goes, header_unusable)
 
 pub table-requires : goal.table-requires
-table-requires c = let n = c in let asks = header_table _ _ _ _ c.usable_number-m.ensures c.if-m-ne0.false _ n.use_number-n.ensures n.if-n-ne0.false _ c.read_places-p.ensures in record { layout = asks.0; le_i = asks.1 }
+table-requires c = let asks = header_table _ _ _ _ c.usable_number-m.ensures c.if-m-ne0.false _ c.use_number-n.ensures c.if-n-ne0.false _ c.read_places-p.ensures in record { layout = asks.0; le_i = asks.1 }
 
 pub returns-then-q-eq0 : goal.returns-then-q-eq0
 unfolding show_header_tests

@@ -11,10 +11,10 @@ pub minus-requires : goal.minus-requires
 minus-requires c = remove_few _ _ _ _ _ _ c.remove_number-n.ensures c.if-n-ne0.false
 
 pub mark_header-requires : goal.mark_header-requires
-mark_header-requires c = let p = c in let asks = remove_marks _ _ _ _ _ _ p.remove_number-n.ensures p.if-n-ne0.false _ p.read_places-p.ensures in record { layout = asks.0; le_f = asks.1.0; header_in_body = asks.1.1 }
+mark_header-requires c = let asks = remove_marks _ _ _ _ _ _ c.remove_number-n.ensures c.if-n-ne0.false _ c.read_places-p.ensures in record { layout = asks.0; le_f = asks.1.0; header_in_body = asks.1.1 }
 
 pub remove-requires : goal.remove-requires
-remove-requires c = let p = c in let asks = remove_asks _ _ _ _ _ _ p.remove_number-n.ensures p.if-n-ne0.false _ p.read_places-p.ensures in record { good_some = asks.0; parent = asks.1.0; f_value = asks.1.1.0; date_len = asks.1.1.1 }
+remove-requires c = let asks = remove_asks _ _ _ _ _ _ c.remove_number-n.ensures c.if-n-ne0.false _ c.read_places-p.ensures in record { good_some = asks.0; parent = asks.1.0; f_value = asks.1.1.0; date_len = asks.1.1.1 }
 
 pub returns : goal.returns
 returns c = search remove_done

@@ -12,11 +12,9 @@ loop-i-init c = (omega arith, omega arith, refl, refl)
 
 pub loop-i-preserved : goal.loop-i-preserved
 loop-i-preserved c =
-    let at = c in
     let s = c.share_of-s.ensures in
-    (omega arith, omega (arith, rest_le at.args.flag (8 - at.loop-i.i) at.loop-i.rest, s.passed), simp length-set (omega arith), search counts_more)
+    (omega arith, omega (arith, rest_le c.args.flag (8 - c.loop-i.i) c.loop-i.rest, s.passed), simp length-set (omega arith), search counts_more)
 
 pub returns : goal.returns
 returns c =
-    let at = c in
-    counts_end at.args.flag at.loop-i.rest at.loop-i.i at.loop-i.c _ (omega arith) (omega arith) at.loop-i.invariant.3
+    counts_end c.args.flag c.loop-i.rest c.loop-i.i c.loop-i.c _ (omega arith) (omega arith) c.loop-i.invariant.3

@@ -14,5 +14,4 @@ zone_blocks-requires c = passed c.is_zone_type.result c.is_zone_type.ensures (se
 
 pub returns : goal.returns
 returns c =
-    let z = c in
-    open_typed _ _ (passed z.is_zone_type.result z.is_zone_type.ensures (search rules)) c.zone_blocks.ensures
+    open_typed _ _ (passed c.is_zone_type.result c.is_zone_type.ensures (search rules)) c.zone_blocks.ensures

@@ -8,31 +8,42 @@ use mathlib.Core.Path.{refl}
 use borrow.Author.Rules.{rules}
 use Rattle.allocation.proofs.choice.clear_from.Goals as goal
 
-inside : (c : goal.In-loop-k) → let k = c.loop-k.k in let size = c.block_sectors-size.result in k * size + size ≤ 1024
-inside c = block_inside _ _ _ c.block_sectors-size.ensures.0 c.block_sectors-size.ensures.1 (omega arith)
-
 -- the block after those that are passed over
 
 over : (c : goal.Else-used-eq0) → let k = c.loop-k.k in
     k + ceil c.used_ahead-used.result c.block_sectors-size.result ≤ c.zone_blocks-last.result
 over c =
+    let inside : c.loop-k.k * c.block_sectors-size.result + c.block_sectors-size.result ≤ 1024
+    = block_inside _ _ _ c.block_sectors-size.ensures.0 c.block_sectors-size.ensures.1 (omega arith) in
     passed_in _ _ _ _ _ c.block_sectors-size.ensures.0 c.block_sectors-size.ensures.1 c.zone_blocks-last.ensures (omega arith)
-    (omega (arith, inside c, c.used_ahead-used.ensures.few))
+    (omega (arith, c.used_ahead-used.ensures.few))
 
 pub loop-k-init : goal.loop-k-init
 loop-k-init c = (search rules, omega arith, λ j l h. absurd (omega arith))
 
 pub overflow_mul-at : goal.overflow_mul-at
-overflow_mul-at c = omega (arith, inside c)
+overflow_mul-at c =
+    let inside : c.loop-k.k * c.block_sectors-size.result + c.block_sectors-size.result ≤ 1024
+    = block_inside _ _ _ c.block_sectors-size.ensures.0 c.block_sectors-size.ensures.1 (omega arith) in
+    omega arith
 
 pub overflow_add-first : goal.overflow_add-first
-overflow_add-first c = omega (arith, inside c)
+overflow_add-first c =
+    let inside : c.loop-k.k * c.block_sectors-size.result + c.block_sectors-size.result ≤ 1024
+    = block_inside _ _ _ c.block_sectors-size.ensures.0 c.block_sectors-size.ensures.1 (omega arith) in
+    omega arith
 
 pub overflow_sub-at : goal.overflow_sub-at
-overflow_sub-at c = omega (arith, inside c)
+overflow_sub-at c =
+    let inside : c.loop-k.k * c.block_sectors-size.result + c.block_sectors-size.result ≤ 1024
+    = block_inside _ _ _ c.block_sectors-size.ensures.0 c.block_sectors-size.ensures.1 (omega arith) in
+    omega arith
 
 pub used_ahead-used-requires : goal.used_ahead-used-requires
-used_ahead-used-requires c = record { layout = search rules; left_nonzero = (omega (arith, inside c), omega (arith, inside c)) }
+used_ahead-used-requires c =
+    let inside : c.loop-k.k * c.block_sectors-size.result + c.block_sectors-size.result ≤ 1024
+    = block_inside _ _ _ c.block_sectors-size.ensures.0 c.block_sectors-size.ensures.1 (omega arith) in
+    record { layout = search rules; left_nonzero = (omega arith, omega arith) }
 
 pub returns-then-used-eq0 : goal.returns-then-used-eq0
 returns-then-used-eq0 c =
@@ -44,7 +55,10 @@ returns-then-used-eq0 c =
     (clear_yes v a.t a.z.0 _ _ c.first_sector-first.ensures c.block_sectors-size.ensures.0 l.k _ refl (c.used_ahead-used.ensures.clear c.if-used-eq0.true))
 
 pub overflow_add-k : goal.overflow_add-k
-overflow_add-k c = omega (arith, inside c, c.used_ahead-used.ensures.few)
+overflow_add-k c =
+    let inside : c.loop-k.k * c.block_sectors-size.result + c.block_sectors-size.result ≤ 1024
+    = block_inside _ _ _ c.block_sectors-size.ensures.0 c.block_sectors-size.ensures.1 (omega arith) in
+    omega (arith, c.used_ahead-used.ensures.few)
 
 pub overflow_add-k-in-loop-k : goal.overflow_add-k-in-loop-k
 overflow_add-k-in-loop-k c = omega (arith, over c)

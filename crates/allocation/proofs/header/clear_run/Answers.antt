@@ -8,15 +8,6 @@ use mathlib.Core.Path.{◌≡◌, refl}
 use borrow.Author.Rules.{rules}
 use Rattle.allocation.proofs.header.clear_run.Goals as goal
 
--- the free sectors with one more
-
-longer : (c : goal.Else-used-gt0) → let l = c.loop-from in let a = c.args in
-    sum_to (l.free + 1) (λ i. sector_at a.p a.b.now (c.first_sector-first.result.0 + l.from + i)) ≡ 0
-longer c =
-    let l = c.loop-from in
-    let a = c.args in
-    run_longer (sector_at a.p a.b.now) _ l.from l.free l.invariant.2 (c.used_ahead-used.ensures.clear (omega arith))
-
 pub loop-from-init : goal.loop-from-init
 unfolding sum_to
 loop-from-init c = (search rules, search rules, refl, λ j l. absurd (omega arith))
@@ -34,10 +25,16 @@ returns-then-free-n c =
     let l = c.loop-from in
     let first = c.first_sector-first in
     let a = c.args in
-    (run_hit (view_of a.p a.b.now) a.n a.z.0 first.result.0 first.ensures l.from l.invariant.3 (search rules) (rw c.if-free-n.true at (longer c)), search rules)
+    -- the free sectors with one more
+    let longer = run_longer (sector_at a.p a.b.now) first.result.0 l.from l.free l.invariant.2 (c.used_ahead-used.ensures.clear (omega arith)) in
+    (run_hit (view_of a.p a.b.now) a.n a.z.0 first.result.0 first.ensures l.from l.invariant.3 (search rules) (rw c.if-free-n.true at longer), search rules)
 
 pub loop-from-preserved : goal.loop-from-preserved
-loop-from-preserved c = (search rules, search rules, longer c, c.loop-from.invariant.3)
+loop-from-preserved c =
+    let l = c.loop-from in
+    let a = c.args in
+    let longer = run_longer (sector_at a.p a.b.now) c.first_sector-first.result.0 l.from l.free l.invariant.2 (c.used_ahead-used.ensures.clear (omega arith)) in
+    (search rules, search rules, longer, l.invariant.3)
 
 pub returns : goal.returns
 returns c =

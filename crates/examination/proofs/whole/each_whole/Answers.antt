@@ -1,27 +1,21 @@
 use native.Mathlib.Nat.{div-le_self}
 use Rattle.tables.proofs.BlockLaws.{block_in}
 use native.Mathlib.Omega.{arith}
-use Prim.Native.Nat.{◌+◌, ◌-◌, ◌*◌, ◌≤◌}
 use Rattle.examination.proofs.WholeLaws.{blocks_none, blocks_more, blocks_stop, blocks_end}
 use borrow.Author.Rules.{rules}
 use Rattle.examination.proofs.whole.each_whole.Goals as goal
-
--- the turn's block lies within the zone
-
-inside : (c : goal.In-loop-i) → let a = c.args in c.loop-i.i * a.size + a.size ≤ 1024
-inside c = block_in _ _ c.requires.block c.loop-i-test.true
 
 pub loop-i-init : goal.loop-i-init
 loop-i-init c = (search rules, search blocks_none)
 
 pub overflow_mul-i : goal.overflow_mul-i
-overflow_mul-i c = omega (arith, inside c)
+overflow_mul-i c = omega (arith, block_in _ _ c.requires.block c.loop-i-test.true)
 
 pub overflow_add-from : goal.overflow_add-from
-overflow_add-from c = omega (arith, inside c)
+overflow_add-from c = omega (arith, block_in _ _ c.requires.block c.loop-i-test.true)
 
 pub block_whole-requires : goal.block_whole-requires
-block_whole-requires c = record { room = record { most = omega (arith, inside c); within = omega (arith, inside c) }; block = search rules }
+block_whole-requires c = record { room = record { most = omega (arith, block_in _ _ c.requires.block c.loop-i-test.true); within = omega (arith, block_in _ _ c.requires.block c.loop-i-test.true) }; block = search rules }
 
 pub returns-then-not-block_whole : goal.returns-then-not-block_whole
 returns-then-not-block_whole c = search blocks_stop

@@ -2,17 +2,9 @@ use mathlib.Core.Path.{refl, ◌∙◌}
 use Prim.Native.Nat.{◌-◌}
 use native.Mathlib.Omega.{arith}
 use lib.ListN.{length-take, length-drop}
-use Rattle.tables.specs.Views.{view_of}
-use Rattle.files.specs.Asked.{OnSector}
 use Rattle.files.specs.Moves.{filled}
 use Rattle.files.proofs.SectorLaws.{moving_none, moving_here, moving_more, moving_end, write_more}
 use Rattle.files.proofs.sectors.write_sectors.Goals as goal
-
--- the turn's spot is a sector
-
-here : (c : goal.In-loop-i) → let a = c.args in OnSector (view_of a.p a.b.now) c.loop-i.c
-here c =
-    moving_here _ _ c.requires.layout c.requires.lawful_some.1 c.args.f.0 _ _ _ _ c.requires.movable _ _ _ c.seek-c.ensures _ _ _ c.loop-i.invariant c.loop-i-test.true
 
 pub seek-c-requires : goal.seek-c-requires
 seek-c-requires c = record { layout = c.requires.layout; lawful_some = c.requires.lawful_some; parent = c.requires.movable.parent; k_bound = c.requires.movable.some }
@@ -22,7 +14,7 @@ unfolding filled
 loop-i-init c = moving_none _ _ _ _ _ _ (λ f. refl)
 
 pub spot_place-a-requires : goal.spot_place-a-requires
-spot_place-a-requires c = record { layout = c.requires.layout; on_sector = here c }
+spot_place-a-requires c = record { layout = c.requires.layout; on_sector = moving_here _ _ c.requires.layout c.requires.lawful_some.1 c.args.f.0 _ _ _ _ c.requires.movable _ _ _ c.seek-c.ensures _ _ _ c.loop-i.invariant c.loop-i-test.true }
 
 pub overflow_add-e : goal.overflow_add-e
 overflow_add-e c = omega arith
@@ -58,7 +50,7 @@ pub move_sector-requires : goal.move_sector-requires
 move_sector-requires c = (simp (length-take, length-drop) (omega arith), simp (length-take, length-drop) (omega arith))
 
 pub onward-c-requires : goal.onward-c-requires
-onward-c-requires c = record { layout = c.requires.layout; on_sector = here c }
+onward-c-requires c = record { layout = c.requires.layout; on_sector = moving_here _ _ c.requires.layout c.requires.lawful_some.1 c.args.f.0 _ _ _ _ c.requires.movable _ _ _ c.seek-c.ensures _ _ _ c.loop-i.invariant c.loop-i-test.true }
 
 pub overflow_add-i : goal.overflow_add-i
 overflow_add-i c = omega arith
@@ -70,8 +62,8 @@ pub loop-i-preserved : goal.loop-i-preserved
 loop-i-preserved c =
     let l = c.loop-i in
     let w = c.move_sector in
-    moving_more _ _ _ _ _ _ _ _ _ l.invariant c.loop-i-test.true _ c.onward-c.ensures c.spot_place-a.result w.new.0 (omega (arith, c.spot_place-a.ensures.1, c.requires.movable.body', c.requires.movable.buffer, l.invariant.len, c.loop-i-test.true))
-    (w.auto.0 ∙ simp (length-take, length-drop) (omega arith))
+    moving_more _ _ _ _ _ _ _ _ _ l.invariant c.loop-i-test.true _ c.onward-c.ensures c.spot_place-a.result w.new.dst (omega (arith, c.spot_place-a.ensures.1, c.requires.movable.body', c.requires.movable.buffer, l.invariant.len, c.loop-i-test.true))
+    (w.auto.dst ∙ simp (length-take, length-drop) (omega arith))
     (λ f at. write_more _ _ _ _ _ _ _ at c.spot_place-a.ensures.0 _ _ _ w.ensures)
 
 pub shape_of-body : goal.shape_of-body

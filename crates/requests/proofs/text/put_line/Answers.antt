@@ -6,7 +6,7 @@ pub put_text-a-requires : goal.put_text-a-requires
 put_text-a-requires c = let a = c.args in omega (arith, line_length a.name.now a.n)
 
 pub put_number-e-requires : goal.put_number-e-requires
-put_number-e-requires c = let a = c.args in omega (arith, line_length a.name.now a.n, c.put_text-a.auto.0)
+put_number-e-requires c = let a = c.args in omega (arith, line_length a.name.now a.n, c.put_text-a.auto.s)
 
 pub put_text-requires : goal.put_text-requires
-put_text-requires c = let a = c.args in omega (arith, line_length a.name.now a.n, c.put_text-a.auto.0, c.put_number-e.auto.0)
+put_text-requires c = let a = c.args in omega (arith, line_length a.name.now a.n, c.put_text-a.auto.s, c.put_number-e.auto.s)

@@ -29,7 +29,7 @@ lay_header-requires c =
 
 pub mark_header-requires : goal.mark_header-requires
 mark_header-requires c =
-    let asks = placing_marks _ _ _ _ _ _ _ c.place_header_number-r.ensures c.if-r-ne0.false _ c.read_places-p.ensures c.lay_header.new.0 c.lay_header.auto.0 in record { layout = asks.0; le_f = asks.1.0; header_in_body = asks.1.1 }
+    let asks = placing_marks _ _ _ _ _ _ _ c.place_header_number-r.ensures c.if-r-ne0.false _ c.read_places-p.ensures c.lay_header.new.body c.lay_header.auto.body in record { layout = asks.0; le_f = asks.1.0; header_in_body = asks.1.1 }
 
 pub put_headed-requires : goal.put_headed-requires
 put_headed-requires c =

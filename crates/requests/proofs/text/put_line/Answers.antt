@@ -1,4 +1,4 @@
-use Rattle.requests.proofs.TextLaws.{line_length}
+use Rattle.requests.proofs.TextLaws.{line_length, put_whole}
 use native.Mathlib.Omega.{arith}
 use Rattle.requests.proofs.text.put_line.Goals as goal
 
@@ -10,3 +10,6 @@ put_number-e-requires c = let a = c.args in omega (arith, line_length a.name.now
 
 pub put_text-requires : goal.put_text-requires
 put_text-requires c = let a = c.args in omega (arith, line_length a.name.now a.n, c.put_text-a.auto.s, c.put_number-e.auto.s)
+
+pub returns : goal.returns
+returns c = search put_whole

@@ -31,20 +31,20 @@ use Rattle.requests.specs.Space.{Spaced, number_of, sectors_value, used_value}
 use Rattle.requests.proofs.SpaceLaws.{spaced_one}
 use Rattle.requests.specs.Report.{report_of, as_text, Reported}
 use Rattle.requests.proofs.ReportLaws.{text_length, text_part, text_fits, text_count}
-use Rattle.requests.specs.Diagnosis.{number_of as diagnosisNumber, rule_value, kind_value, place_value, Diagnosed, diagnosis_lines, DiagnosisText}
+use Rattle.requests.specs.Diagnosis.{number_of as diagnosis_number, rule_value, kind_value, place_value, Diagnosed, diagnosis_lines, DiagnosisText}
 use Rattle.requests.proofs.DiagnosisLaws.{diagnosed_one}
 use Rattle.tables.specs.declared.counts.Chosen.{Chosen}
 use Rattle.tables.specs.Counts.{chosen_types}
 use Rattle.allocation.specs.NewTables.{New}
-use Rattle.requests.specs.Create.{number_of as createdNumber, id_value, Creates, CreatedFixed, CreatedVariable}
+use Rattle.requests.specs.Create.{number_of as created_number, id_value, Creates, CreatedFixed, CreatedVariable}
 use Rattle.requests.proofs.CreateLaws.{creates_one}
 use Rattle.requests.specs.Grow.{Grew}
-use Rattle.requests.specs.Answers.{number_of as answerNumber, value_of}
+use Rattle.requests.specs.Answers.{number_of as answer_number, value_of}
 use Rattle.requests.specs.Search.{Searched}
 use Rattle.requests.proofs.SearchRequestLaws.{searched_one}
 use Rattle.requests.specs.Listing.{Listed}
 use Rattle.requests.proofs.ListLaws.{listed_one}
-use Rattle.requests.specs.Locate.{number_of as locatedNumber, sector_value, Locates}
+use Rattle.requests.specs.Locate.{number_of as located_number, sector_value, Locates}
 use Rattle.requests.proofs.LocateLaws.{located_one}
 use Rattle.requests.specs.Read.{ReadOut}
 use Rattle.requests.proofs.ReadLaws.{read_one as read-out-one}
@@ -114,7 +114,7 @@ pub format_border : (b b' : List ℕ) (x y : ℤ) (z n : Amount) (l : Label) (r 
 format_border b b' x y z n l r e f h = rw (← e, ← f) h
 
 -- a create's promise with the number and the id that `hand_back_id` gives
-pub create_out : (P : Created → Type 0) (made : Created) (r id : ℕ) → P made → (r ≡ createdNumber made) × (id ≡ id_value made) → CreateOut P r id
+pub create_out : (P : Created → Type 0) (made : Created) (r id : ℕ) → P made → (r ≡ created_number made) × (id ≡ id_value made) → CreateOut P r id
 create_out P made r id h e = record { answer = made; holds = h; number = e.0; value = e.1 }
 
 pub fixed_border : (b withheld b' name date : List ℕ) (x flag : ℤ) (kind : ℕ) (size : Amount) (types : Chosen) (made : Created) → size ≡ amount_of x → types ≡ chosen_types flag → CreatedFixed b withheld name size types kind date made b' → CreatedFixed b withheld name (amount_of x) (chosen_types flag) kind date made b'
@@ -133,7 +133,7 @@ pub locate_no : (b withheld : List ℕ) (id k : ℕ) (found : Located) (n : ℕ)
 locate_no b withheld id k found n h e = record { answer = NotLocated n; locates = rw e at h; number = refl; value = refl }
 
 -- a request's promise with the number and the value that `hand_back` gives
-pub answer_out : (P : Answer → Type 0) (answer : Answer) (r value : ℕ) → P answer → (r ≡ answerNumber answer) × (value ≡ value_of answer) → AnswerOut P r value
+pub answer_out : (P : Answer → Type 0) (answer : Answer) (r value : ℕ) → P answer → (r ≡ answer_number answer) × (value ≡ value_of answer) → AnswerOut P r value
 answer_out P answer r value h e = record { answer = answer; holds = h; number = e.0; one = e.1 }
 
 pub read_border : (b withheld body out out' : List ℕ) (id : ℕ) (x y : ℤ) (at long : Amount) (exchange : Bool) (r : Answer) → at ≡ amount_of x → long ≡ amount_of y → ReadOut b withheld body id at long exchange out r out' → ReadOut b withheld body id (amount_of x) (amount_of y) exchange out r out'
@@ -149,13 +149,13 @@ pub create_one : (tests : List Test) (b counts : List ℕ) (new : New) (x y : Li
     → CreateOut (λ answer. Creates tests b counts new answer x) r id → CreateOut (λ answer. Creates tests b counts new answer y) r' id' → (r ≡ r') × (id ≡ id') × (x ≡ y)
 create_one tests b counts new x y r r' id id' h k =
     let e = creates_one tests b counts new h.answer k.answer x y h.holds k.holds in
-    (h.number ∙ ap createdNumber e.0 ∙ sym k.number, h.value ∙ ap id_value e.0 ∙ sym k.value, e.1)
+    (h.number ∙ ap created_number e.0 ∙ sym k.number, h.value ∙ ap id_value e.0 ∙ sym k.value, e.1)
 
 -- promises P and Q that allow one answer, and S of what else they leave
 pub answer_one : (P Q : Answer → Type 0) (S : Type 0) (r r' v v' : ℕ) → ((x y : Answer) → P x → Q y → (x ≡ y) × S) → AnswerOut P r v → AnswerOut Q r' v' → (r ≡ r') × (v ≡ v') × S
 answer_one P Q S r r' v v' one h k =
     let e = one h.answer k.answer h.holds k.holds in
-    (h.number ∙ ap answerNumber e.0 ∙ sym k.number, h.one ∙ ap value_of e.0 ∙ sym k.one, e.1)
+    (h.number ∙ ap answer_number e.0 ∙ sym k.number, h.one ∙ ap value_of e.0 ∙ sym k.one, e.1)
 
 pub search_one : (b withheld pattern ids x y : List ℕ) (r r' n n' : ℕ)
     → AnswerOut (λ answer. Searched b withheld pattern ids answer x) r n → AnswerOut (λ answer. Searched b withheld pattern ids answer y) r' n' → (r ≡ r') × (n ≡ n') × (x ≡ y)
@@ -178,7 +178,7 @@ write_one b withheld body id at long exchange input date x y u w r r' n n' h k =
 pub locate_one : (b withheld : List ℕ) (id k r r' s s' : ℕ) → LocateOut b withheld id k r s → LocateOut b withheld id k r' s' → (r ≡ r') × (s ≡ s')
 locate_one b withheld id k r r' s s' h l =
     let e : h.answer ≡ l.answer = located_one b withheld id k h.answer l.answer h.locates l.locates in
-    (h.number ∙ ap locatedNumber e ∙ sym l.number, h.value ∙ ap sector_value e ∙ sym l.value)
+    (h.number ∙ ap located_number e ∙ sym l.number, h.value ∙ ap sector_value e ∙ sym l.value)
 
 pub space_one : (b withheld : List ℕ) (r r' s s' u u' : ℕ) → SpaceOut b withheld r s u → SpaceOut b withheld r' s' u' → (r ≡ r') × (s ≡ s') × (u ≡ u')
 space_one b withheld r r' s s' u u' h k =
@@ -195,7 +195,7 @@ broken_text_one b withheld xs ys h k = h.is ∙ ap diagnosis_lines (diagnosed_on
 pub broken_one : (b withheld : List ℕ) (r r' u u' v v' w w' : ℕ) → BrokenOut b withheld r u v w → BrokenOut b withheld r' u' v' w' → (r ≡ r') × (u ≡ u') × (v ≡ v') × (w ≡ w')
 broken_one b withheld r r' u u' v v' w w' h k =
     let e = diagnosed_one b withheld h.answer k.answer h.diagnosed k.diagnosed in (
-      h.number ∙ ap diagnosisNumber e ∙ sym k.number,
+      h.number ∙ ap diagnosis_number e ∙ sym k.number,
       h.broken ∙ ap rule_value e ∙ sym k.broken,
       h.sort ∙ ap kind_value e ∙ sym k.sort,
       h.place' ∙ ap place_value e ∙ sym k.place',

@@ -9,12 +9,12 @@ use Rattle.requests.specs.declared.create.Created.{Created}
 use Rattle.requests.specs.declared.locate.Located.{Located}
 use Rattle.requests.specs.declared.report.Text.{Text}
 use Rattle.requests.specs.declared.space.Space.{Space}
-use Rattle.requests.specs.Answers.{number_of as answerNumber, value_of}
-use Rattle.requests.specs.Create.{number_of as createdNumber, id_value}
-use Rattle.requests.specs.Locate.{number_of as locatedNumber, sector_value, Locates}
+use Rattle.requests.specs.Answers.{number_of as answer_number, value_of}
+use Rattle.requests.specs.Create.{number_of as created_number, id_value}
+use Rattle.requests.specs.Locate.{number_of as located_number, sector_value, Locates}
 use Rattle.requests.specs.Space.{number_of, sectors_value, used_value, Spaced}
 use Rattle.requests.specs.Report.{report_of}
-use Rattle.requests.specs.Diagnosis.{number_of as diagnosisNumber, rule_value, kind_value, place_value, Diagnosed, diagnosis_lines}
+use Rattle.requests.specs.Diagnosis.{number_of as diagnosis_number, rule_value, kind_value, place_value, Diagnosed, diagnosis_lines}
 
 -- "`exchange` is 0 for no and anything else for yes"
 abbrev pub asked : ℕ → Bool
@@ -24,21 +24,21 @@ asked exchange = not (eqb exchange 0)
 pub record AnswerOut (promise : Answer → Type 0) (r value : ℕ) : Type 0 where
   pub answer : Answer
   pub holds : promise answer
-  pub number : r ≡ answerNumber answer
+  pub number : r ≡ answer_number answer
   pub one : value ≡ value_of answer
 
 -- a create, with its promise: the number and the new file's id, 0 on a refusal
 pub record CreateOut (promise : Created → Type 0) (r id : ℕ) : Type 0 where
   pub answer : Created
   pub holds : promise answer
-  pub number : r ≡ createdNumber answer
+  pub number : r ≡ created_number answer
   pub value : id ≡ id_value answer
 
 -- locate: the number and the sector, 0 on a refusal
 pub record LocateOut (b withheld : List ℕ) (id k r sector : ℕ) : Type 0 where
   pub answer : Located
   pub locates : Locates b withheld id k answer
-  pub number : r ≡ locatedNumber answer
+  pub number : r ≡ located_number answer
   pub value : sector ≡ sector_value answer
 
 -- space: the number and the values of the answer, zeros on a refusal
@@ -53,7 +53,7 @@ pub record SpaceOut (b withheld : List ℕ) (r sectors used : ℕ) : Type 0 wher
 pub record BrokenOut (b withheld : List ℕ) (r rule kind place : ℕ) : Type 0 where
   pub answer : Diagnosis
   pub diagnosed : Diagnosed b withheld answer
-  pub number : r ≡ diagnosisNumber answer
+  pub number : r ≡ diagnosis_number answer
   pub broken : rule ≡ rule_value answer
   pub sort : kind ≡ kind_value answer
   pub place' : place ≡ place_value answer

@@ -7,7 +7,7 @@ ghost use Rattle.tables.specs.Counts.{chosen_types};
 ghost use Rattle.tables.specs.Gates.{Gate};
 ghost use Rattle.requests.specs.Amounts.{amount_of};
 ghost use Rattle.requests.specs.Answers.{number_of, value_of};
-ghost use Rattle.requests.specs.Create.{number_of as createdNumber, id_value, CreatedFixed, CreatedVariable};
+ghost use Rattle.requests.specs.Create.{number_of as created_number, id_value, CreatedFixed, CreatedVariable};
 ghost use Rattle.requests.specs.Delete.{Deleted};
 ghost use Rattle.requests.specs.Format.{Formatted};
 ghost use Rattle.requests.specs.Grow.{Grew};
@@ -85,7 +85,7 @@ pub extern "C" fn isc_dismount(books: &mut [u8], withheld: &[u32]) -> u32
 
 // Hands back what a create answers.
 fn hand_back_id(made: Created, id: &mut u32) -> u32
-    ensures { (result ≡ createdNumber made) × (id.new ≡ id_value made) }
+    ensures { (result ≡ created_number made) × (id.new ≡ id_value made) }
 {
     match made {
         Created::Done(i) => {

@@ -39,7 +39,7 @@ use Rattle.requests.specs.declared.amount.Amount.{Amount}
 use Rattle.requests.specs.declared.answer.Answer.{Answer}
 use Rattle.requests.specs.declared.create.Created.{Created}
 use Rattle.requests.specs.Amounts.{amount_value}
-use Rattle.requests.specs.Answers.{after, argument_tests, number_of as answerNumber}
+use Rattle.requests.specs.Answers.{after, argument_tests, number_of as answer_number}
 use Rattle.requests.specs.Create.{number_of, Creates, CreatedFixed, CreatedVariable}
 use Rattle.requests.specs.Delete.{Deleted}
 use Rattle.requests.specs.Grow.{grow_counts, lack_tests, grow_tests, grown_to, Grew}
@@ -144,7 +144,7 @@ module _ (b withheld : List ℕ) {extra : ℕ → ℕ} (g : GoodWith extra b (pl
       → KeepsTypes extra v (view_of p b')
   wrote_types body id position long x input date r b' body' h =
       let n = whole_sectors (amount_value long) in
-      done_types (answerNumber r) (written_books b id (amount_value position) n date) b b' p h.books (λ z.
+      done_types (answer_number r) (written_books b id (amount_value position) n date) b b' p h.books (λ z.
       (let q : Gate (write_tests b withheld body id position long (length input) date) 0 = rw z at h.number in
       written_types id (amount_value position) n date (write_parent b withheld body id position long (length input) date 0 q refl)
       (write_lack b withheld body id position long (length input) date 0 q refl) (write_allows b withheld body id position long (length input) date 0 q refl).date'))

@@ -23,7 +23,7 @@ use Rattle.tables.specs.declared.counts.Chosen.TheVariants.{Types, Bad}
 use Rattle.tables.specs.Blocks.{DataType, block_of, Block}
 use Rattle.tables.specs.Rules.R1.{ceil}
 use Rattle.tables.specs.Counts.{types_of, chosen_types, weight_of, block_bytes, is_chosen, none_below, share_count, share_rest, counts_down, counts_of, supplied_by, Countable, Shared}
-use Rattle.tables.proofs.BlockLaws.{data_zone, six, block_some, block_few}
+use Rattle.tables.proofs.BlockLaws.{data_zone, block_some, block_few}
 use Rattle.field.proofs.Tests.{no_true}
 
 -- ---- a branch by a test, on each way on from it

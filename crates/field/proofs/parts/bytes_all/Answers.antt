@@ -1,6 +1,5 @@
 use Rattle.field.proofs.PartLaws.{all_behind, all_within}
 use Rattle.field.proofs.Tests.{passed, refused}
-use Prim.Native.Nat.{◌-◌}
 use borrow.Author.Rules.{rules}
 use Rattle.field.proofs.parts.bytes_all.Goals as goal
 

@@ -1,7 +1,6 @@
-use lib.ListN.{length-set, length}
+use lib.ListN.{length-set}
 use Rattle.field.proofs.PartLaws.{copy_more, copy_end}
-use lib.Seq.{paste, paste-zero}
-use Prim.Native.Nat.{◌-◌}
+use lib.Seq.{paste-zero}
 use mathlib.Core.Path.{refl}
 use borrow.Author.Rules.{rules}
 use Rattle.field.proofs.parts.copy.Goals as goal

@@ -1,7 +1,6 @@
-use lib.ListN.{length-set, length, replicate}
+use lib.ListN.{length-set, replicate}
 use Rattle.field.proofs.PartLaws.{fill_again, fill_end}
-use lib.Seq.{paste, paste-zero}
-use Prim.Native.Nat.{◌-◌}
+use lib.Seq.{paste-zero}
 use mathlib.Core.Path.{refl}
 use borrow.Author.Rules.{rules}
 use Rattle.field.proofs.parts.fill.Goals as goal

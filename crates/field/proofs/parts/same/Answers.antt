@@ -1,6 +1,5 @@
 use Rattle.field.proofs.PartLaws.{same_at, same_all}
 use borrow.Author.Count.{below_more}
-use Prim.Native.Nat.{◌-◌}
 use borrow.Author.Rules.{rules}
 use Rattle.field.proofs.parts.same.Goals as goal
 

@@ -1,6 +1,6 @@
 use native.Mathlib.Omega.{arith}
 use lib.Count.{ones}
-use Prim.Native.Nat.{◌+◌, ◌-◌, ◌≤◌}
+use Prim.Native.Nat.{◌+◌, ◌≤◌}
 use Rattle.field.proofs.ByteLaws.{count_none, count_more, count_fits, count_all, count_small}
 use borrow.Author.Rules.{rules}
 use Rattle.field.proofs.runs.count_bytes.Goals as goal

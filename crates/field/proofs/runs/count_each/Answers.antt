@@ -1,4 +1,4 @@
-use Prim.Native.Nat.{◌+◌, ◌-◌}
+use Prim.Native.Nat.{◌+◌}
 use Rattle.field.proofs.RunLaws.{count_next, count_le}
 use Rattle.field.specs.Runs.{count_bits}
 use Rattle.field.specs.Sum.{sum_to}

@@ -1,7 +1,6 @@
 use Rattle.field.proofs.RunLaws.{set_next}
 use Rattle.field.specs.Runs.{set_bits}
 use native.Mathlib.Omega.{arith}
-use Prim.Native.Nat.{◌-◌}
 use mathlib.Core.Path.{◌≡◌, refl, ◌∙◌}
 use borrow.Author.Rules.{rules}
 use Rattle.field.proofs.runs.set_bits.Goals as goal

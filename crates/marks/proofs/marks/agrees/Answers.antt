@@ -1,8 +1,6 @@
 use native.Mathlib.Omega.{arith}
 use mathlib.Core.Path.{sym, ◌∙◌}
-use Prim.Native.Nat.{◌-◌}
 use borrow.Author.Count.{below_more}
-use Rattle.marks.specs.Marks.{word_at}
 use Rattle.marks.proofs.MarkLaws.{agrees_stop, agrees_end}
 use borrow.Author.Rules.{rules}
 use Rattle.marks.proofs.marks.agrees.Goals as goal

@@ -1,4 +1,3 @@
-use Prim.Native.Nat.{◌-◌}
 use native.Mathlib.Omega.{arith}
 use Rattle.marks.proofs.MarkLaws.{tables_none, tables_more, tables_stop, tables_end, table_fits}
 use mathlib.Core.Path.{◌∙◌}

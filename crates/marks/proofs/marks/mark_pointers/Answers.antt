@@ -1,4 +1,3 @@
-use Prim.Native.Nat.{◌-◌}
 use Rattle.marks.proofs.MarkLaws.{first_none, first_more, first_stop, first_rest, first_end, slot_in, pointer_room, still_long}
 use borrow.Author.Rules.{rules}
 use Rattle.marks.proofs.marks.mark_pointers.Goals as goal

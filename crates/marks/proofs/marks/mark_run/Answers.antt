@@ -1,4 +1,3 @@
-use Prim.Native.Nat.{◌-◌}
 use Rattle.marks.proofs.MarkLaws.{run_none, run_more, run_stop, run_end}
 use borrow.Author.Rules.{rules}
 use Rattle.marks.proofs.marks.mark_run.Goals as goal

@@ -1,4 +1,3 @@
-use Prim.Native.Nat.{◌-◌}
 use Rattle.marks.proofs.WithheldListLaws.{list_starts, marks_begin, marks_more, marks_end}
 use borrow.Author.Rules.{rules}
 use Rattle.marks.proofs.withheld.mark_withheld.Goals as goal

@@ -1,4 +1,3 @@
-use Prim.Native.Nat.{◌-◌}
 use native.Mathlib.Omega.{arith}
 use Rattle.field.proofs.Tests.{passed}
 use Rattle.marks.proofs.WithheldListLaws.{list_long, list_stops, list_ends}

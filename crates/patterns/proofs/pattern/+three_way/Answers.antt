@@ -1,4 +1,3 @@
-use native.Mathlib.Omega.{arith}
 use Rattle.patterns.proofs.PatternLaws.{both_end, pattern_ends, differs_some, any_passes, any_stands, any_ends, any_more, name_ends, byte_stands, byte_differs}
 use Rattle.patterns.proofs.pattern.+three_way.Goals as goal
 

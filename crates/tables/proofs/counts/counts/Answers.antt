@@ -1,6 +1,6 @@
 use Rattle.tables.proofs.CountsLaws.{counts_more, counts_end, rest_le}
 use Rattle.tables.specs.Counts.{counts_of}
-use lib.ListN.{length, length-set}
+use lib.ListN.{length-set}
 use native.Mathlib.Omega.{arith}
 use mathlib.Core.Path.{refl}
 use Prim.Native.Nat.{◌-◌}

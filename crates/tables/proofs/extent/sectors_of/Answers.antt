@@ -1,4 +1,3 @@
-use Prim.Native.Nat.{◌-◌}
 use native.Mathlib.Omega.{arith}
 use Rattle.tables.proofs.IndexLaws.{slots_in}
 use Rattle.tables.proofs.ExtentLaws.{sectors_none, sectors_more, sectors_all}

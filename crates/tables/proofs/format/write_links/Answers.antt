@@ -1,4 +1,3 @@
-use Prim.Native.Nat.{◌-◌}
 use mathlib.Core.Path.{refl}
 use Rattle.tables.proofs.FormatStepLaws.{links_none, links_turn, links_end}
 use borrow.Author.Rules.{rules}

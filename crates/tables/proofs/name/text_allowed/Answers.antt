@@ -1,5 +1,4 @@
 use borrow.Author.Count.{below_more}
-use Prim.Native.Nat.{◌-◌}
 use borrow.Author.Rules.{rules}
 use Rattle.tables.proofs.name.text_allowed.Goals as goal
 

@@ -1,8 +1,6 @@
 use Rattle.tables.proofs.LackLaws.{lacks_more, lacks_say}
-use Rattle.tables.specs.Room.{lack_of}
 use Rattle.field.specs.Sum.{sum_to}
 use native.Mathlib.Omega.{arith}
-use Prim.Native.Nat.{◌-◌}
 use mathlib.Core.Path.{refl}
 use borrow.Author.Rules.{rules}
 use Rattle.tables.proofs.room.room.Goals as goal

@@ -1,9 +1,6 @@
-use Rattle.allocation.specs.Choice.{begun}
 use Rattle.allocation.proofs.FindLaws.{search_hit, search_more, search_end}
 use Rattle.allocation.proofs.NextBlockLaws.{begun_yes, begun_no}
 use native.Mathlib.Omega.{arith}
-use Prim.Native.Nat.{◌-◌}
-use mathlib.Core.Bool.{false}
 use borrow.Author.Rules.{rules}
 use Rattle.allocation.proofs.choice.begun_from.Goals as goal
 

@@ -3,7 +3,7 @@ use Rattle.allocation.proofs.NextBlockLaws.{clear_yes, clear_none, clear_more, b
 use Rattle.tables.specs.Rules.R1.{ceil}
 use Rattle.tables.specs.Views.{view_of}
 use native.Mathlib.Omega.{arith}
-use Prim.Native.Nat.{◌+◌, ◌-◌, ◌*◌, ◌≤◌}
+use Prim.Native.Nat.{◌+◌, ◌*◌, ◌≤◌}
 use mathlib.Core.Path.{refl}
 use borrow.Author.Rules.{rules}
 use Rattle.allocation.proofs.choice.clear_from.Goals as goal

@@ -2,8 +2,6 @@ use Rattle.allocation.specs.Choice.{lowest_open}
 use Rattle.allocation.proofs.FindLaws.{search_hit, search_more, search_end}
 use Rattle.tables.specs.Open.{is_open}
 use native.Mathlib.Omega.{arith}
-use Prim.Native.Nat.{◌-◌}
-use mathlib.Core.Bool.{false}
 use mathlib.Core.Path.{sym, ap, ◌∙◌}
 use borrow.Author.Rules.{rules}
 use Rattle.allocation.proofs.choice.lowest_open.Goals as goal

@@ -1,4 +1,3 @@
-use Prim.Native.Nat.{◌-◌}
 use Rattle.allocation.proofs.GrowthLaws.{all_added_none, all_added_some, all_added_more, all_added_end}
 use Rattle.allocation.proofs.growth.add_all.Goals as goal
 

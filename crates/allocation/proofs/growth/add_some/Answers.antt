@@ -1,5 +1,4 @@
 use Rattle.allocation.proofs.GrowthLaws.{adding_layout, adding_r3, adding_none, adding_typed, adding_laying, adding_more, adding_end}
-use Prim.Native.Nat.{◌-◌}
 use borrow.Author.Rules.{rules}
 use Rattle.allocation.proofs.growth.add_some.Goals as goal
 

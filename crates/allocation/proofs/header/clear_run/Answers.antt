@@ -3,8 +3,7 @@ use Rattle.field.specs.Sum.{sum_to}
 use Rattle.tables.specs.Sectors.{sector_at}
 use Rattle.tables.specs.Views.{view_of}
 use native.Mathlib.Omega.{arith}
-use Prim.Native.Nat.{◌+◌, ◌-◌}
-use mathlib.Core.Path.{◌≡◌, refl}
+use mathlib.Core.Path.{refl}
 use borrow.Author.Rules.{rules}
 use Rattle.allocation.proofs.header.clear_run.Goals as goal
 

@@ -1,8 +1,6 @@
-use Rattle.allocation.specs.Headers.{fitting, lowest_fitting}
+use Rattle.allocation.specs.Headers.{lowest_fitting}
 use Rattle.allocation.proofs.FindLaws.{search_hit, search_more, search_end}
 use native.Mathlib.Omega.{arith}
-use Prim.Native.Nat.{◌-◌}
-use mathlib.Core.Bool.{false}
 use mathlib.Core.Path.{sym, ◌∙◌}
 use borrow.Author.Rules.{rules}
 use Rattle.allocation.proofs.header.fitting_zone.Goals as goal

@@ -1,6 +1,5 @@
 use Rattle.tables.proofs.IndexLaws.{slots_in}
 use native.Mathlib.Omega.{arith}
-use Prim.Native.Nat.{◌-◌}
 use Rattle.allocation.proofs.LastLaws.{passing_none, passing_more, passing_stop, passing_end}
 use borrow.Author.Rules.{rules}
 use Rattle.allocation.proofs.last.used_pointers.Goals as goal

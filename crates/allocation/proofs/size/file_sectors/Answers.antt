@@ -1,4 +1,3 @@
-use Prim.Native.Nat.{◌-◌}
 use Rattle.allocation.proofs.SizeLaws.{summing_none, summing_more, summing_all}
 use borrow.Author.Rules.{rules}
 use Rattle.allocation.proofs.size.file_sectors.Goals as goal

@@ -1,4 +1,3 @@
-use Prim.Native.Nat.{◌-◌}
 use Rattle.examination.proofs.MeetingLaws.{noted_none, meets_more, meets_all}
 use borrow.Author.Rules.{rules}
 use Rattle.examination.proofs.chains.rule5_place.Goals as goal

@@ -1,5 +1,4 @@
 use native.Mathlib.Omega.{arith}
-use Prim.Native.Nat.{◌-◌}
 use borrow.Author.Count.{below_more}
 use Rattle.field.proofs.Tests.{passed, refused}
 use borrow.Author.Rules.{rules}

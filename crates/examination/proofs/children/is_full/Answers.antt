@@ -1,5 +1,4 @@
 use native.Mathlib.Omega.{arith}
-use Prim.Native.Nat.{◌-◌}
 use Rattle.examination.proofs.ChildLaws.{full_stop, full_end, full_more}
 use Rattle.marks.proofs.MarkLaws.{slot_in}
 use borrow.Author.Rules.{rules}

@@ -1,7 +1,7 @@
 use native.Mathlib.Omega.{arith}
 use Prim.Native.Nat.{◌<◌}
 use Rattle.examination.proofs.ChildLaws.{going_none, going_more, child_index, child_small, child_in, stop_follows, stop_marked, going_end}
-use Rattle.examination.proofs.MetLaws.{clear, clear_less}
+use Rattle.examination.proofs.MetLaws.{clear_less}
 use borrow.Author.Rules.{rules}
 use Rattle.examination.proofs.children.mark_chain.Goals as goal
 

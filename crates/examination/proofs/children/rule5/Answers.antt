@@ -1,4 +1,3 @@
-use Prim.Native.Nat.{◌-◌}
 use Rattle.examination.proofs.ChildLaws.{passed_none, passes_before, passes_more, passes_stop, met_says_rule}
 use borrow.Author.Rules.{rules}
 use Rattle.examination.proofs.children.rule5.Goals as goal

@@ -1,5 +1,4 @@
 use native.Mathlib.Omega.{arith}
-use Prim.Native.Nat.{◌-◌}
 use Rattle.examination.proofs.ChildLaws.{some_stop, some_end, some_more}
 use Rattle.marks.proofs.MarkLaws.{slot_in}
 use borrow.Author.Rules.{rules}

@@ -1,5 +1,4 @@
 use native.Mathlib.Omega.{arith}
-use Prim.Native.Nat.{◌-◌}
 use Rattle.examination.proofs.CountedLaws.{counted_none, counted_more, counted_few, counted_all}
 use borrow.Author.Rules.{rules}
 use Rattle.examination.proofs.counts.count_tables.Goals as goal

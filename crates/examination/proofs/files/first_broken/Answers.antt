@@ -1,5 +1,5 @@
 use native.Mathlib.Omega.{arith}
-use Prim.Native.Nat.{◌-◌, ◌+◌}
+use Prim.Native.Nat.{◌+◌}
 use Rattle.tables.specs.Rules.R8.{FileLaw}
 use Rattle.tables.specs.Views.{view_of}
 use Rattle.examination.proofs.FindingLaws.{each_none, each_more, fails_here, holds_all}

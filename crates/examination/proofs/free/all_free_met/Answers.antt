@@ -1,7 +1,6 @@
 use borrow.Author.Count.{below_more}
 use Rattle.field.proofs.Tests.{passed, refused}
 use native.Mathlib.Omega.{arith}
-use Prim.Native.Nat.{◌-◌}
 use borrow.Author.Rules.{rules}
 use Rattle.examination.proofs.free.all_free_met.Goals as goal
 

@@ -1,7 +1,7 @@
 use native.Mathlib.Omega.{arith}
 use Prim.Native.Nat.{◌<◌}
 use Rattle.examination.proofs.FreeLaws.{walking_none, walking_more, free_small, free_in_lem, stop_free, stop_marked, free_end}
-use Rattle.examination.proofs.MetLaws.{clear, clear_less}
+use Rattle.examination.proofs.MetLaws.{clear_less}
 use borrow.Author.Rules.{rules}
 use Rattle.examination.proofs.free.free_chain.Goals as goal
 

@@ -1,4 +1,3 @@
-use Prim.Native.Nat.{◌-◌}
 use Rattle.examination.proofs.FindingLaws.{each_none, each_more, fails_here, holds_all}
 use borrow.Author.Rules.{rules}
 use Rattle.examination.proofs.free.own_bytes.Goals as goal

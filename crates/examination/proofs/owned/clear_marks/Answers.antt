@@ -1,5 +1,4 @@
 use native.Mathlib.Omega.{arith}
-use Prim.Native.Nat.{◌-◌}
 use Rattle.examination.proofs.LimitLaws.{clear_more, cleared}
 use borrow.Author.Rules.{rules}
 use Rattle.examination.proofs.owned.clear_marks.Goals as goal

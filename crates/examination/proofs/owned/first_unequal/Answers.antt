@@ -1,6 +1,5 @@
 use native.Mathlib.Omega.{arith}
 use mathlib.Core.Path.{sym, ◌∙◌}
-use Prim.Native.Nat.{◌-◌}
 use Rattle.examination.proofs.LimitLaws.{unequal_here, unequal_limit, equal_all}
 use borrow.Author.Count.{below_more}
 use borrow.Author.Rules.{rules}

@@ -1,5 +1,4 @@
 use mathlib.Core.Bool.{true}
-use Prim.Native.Nat.{◌-◌}
 use Rattle.marks.proofs.MarkLaws.{run_none, run_more}
 use Rattle.examination.proofs.LimitLaws.{run_far, run_twice, run_full}
 use borrow.Author.Rules.{rules}

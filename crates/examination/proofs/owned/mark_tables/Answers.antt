@@ -1,5 +1,4 @@
 use native.Mathlib.Omega.{arith}
-use Prim.Native.Nat.{◌-◌}
 use Rattle.marks.proofs.MarkLaws.{table_fits}
 use Rattle.examination.proofs.LimitLaws.{all_none, all_more, all_end}
 use borrow.Author.Rules.{rules}

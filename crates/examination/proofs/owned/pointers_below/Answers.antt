@@ -1,4 +1,3 @@
-use Prim.Native.Nat.{◌-◌}
 use Rattle.examination.proofs.LimitLaws.{pointers_none, pointers_more, pointers_end}
 use Rattle.marks.proofs.MarkLaws.{slot_in, pointer_room}
 use borrow.Author.Rules.{rules}

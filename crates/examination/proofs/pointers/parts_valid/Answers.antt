@@ -1,4 +1,3 @@
-use Prim.Native.Nat.{◌-◌}
 use Rattle.examination.proofs.ZonePartLaws.{parts_none, parts_more, parts_refused, parts_all}
 use borrow.Author.Rules.{rules}
 use Rattle.examination.proofs.pointers.parts_valid.Goals as goal

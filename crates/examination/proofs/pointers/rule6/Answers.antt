@@ -1,4 +1,3 @@
-use Prim.Native.Nat.{◌-◌}
 use Rattle.tables.specs.Views.{view_of}
 use Rattle.tables.specs.Rules.R6.{PointerLaw}
 use Rattle.examination.proofs.FindingLaws.{each_none, each_more, fails_here, holds_all}

@@ -1,4 +1,3 @@
-use Prim.Native.Nat.{◌-◌}
 use Rattle.examination.proofs.SlotLaws.{lead_none, lead_more, slots_refused, slots_says, slots_all}
 use borrow.Author.Rules.{rules}
 use Rattle.examination.proofs.pointers.slots_valid.Goals as goal

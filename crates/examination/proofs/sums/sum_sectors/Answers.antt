@@ -1,6 +1,5 @@
 use Rattle.examination.proofs.SurveyLaws.{summed_end}
 use native.Mathlib.Omega.{arith}
-use Prim.Native.Nat.{◌-◌}
 use borrow.Author.Rules.{rules}
 use Rattle.examination.proofs.sums.sum_sectors.Goals as goal
 

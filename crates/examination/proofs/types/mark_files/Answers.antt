@@ -1,5 +1,4 @@
 use native.Mathlib.Omega.{arith}
-use Prim.Native.Nat.{◌-◌}
 use Rattle.examination.proofs.SurveyLaws.{marked_end}
 use borrow.Author.Rules.{rules}
 use Rattle.examination.proofs.types.mark_files.Goals as goal

@@ -1,4 +1,3 @@
-use Prim.Native.Nat.{◌-◌}
 use native.Mathlib.Omega.{arith}
 use Rattle.examination.proofs.SurveyLaws.{run_none, run_one, run_not, run_more, run_all}
 use borrow.Author.Rules.{rules}

@@ -1,4 +1,3 @@
-use Prim.Native.Nat.{◌-◌}
 use native.Mathlib.Omega.{arith}
 use Rattle.marks.proofs.MarkLaws.{slot_in}
 use Rattle.tables.specs.Views.{view_of}

@@ -1,4 +1,3 @@
-use Prim.Native.Nat.{◌-◌}
 use Rattle.examination.proofs.WholeLaws.{fours_none, fours_more, fours_stop, fours_end}
 use borrow.Author.Rules.{rules}
 use Rattle.examination.proofs.whole.fours_whole.Goals as goal

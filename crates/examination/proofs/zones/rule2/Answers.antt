@@ -1,5 +1,4 @@
 use Rattle.examination.proofs.ZoneLaws.{law_fails, law_holds}
-use Prim.Native.Nat.{◌-◌}
 use Rattle.examination.proofs.FindingLaws.{each_none, each_more}
 use borrow.Author.Rules.{rules}
 use Rattle.examination.proofs.zones.rule2.Goals as goal

@@ -1,5 +1,4 @@
 use Rattle.examination.proofs.ZoneLaws.{zones_none, zones_more, zones_fail, zones_hold}
-use Prim.Native.Nat.{◌-◌}
 use borrow.Author.Rules.{rules}
 use Rattle.examination.proofs.zones.rule3.Goals as goal
 

@@ -17,8 +17,11 @@ run_start-requires c =
 pub free_run-requires : goal.free_run-requires
 free_run-requires c =
     let a = c.args in
-    record { layout = search rules; recountable = head_countable a.p a.b.now c.requires.layout c.requires.lawful_some.1 a.f.0 c.requires.parent a.n c.requires.le_n.0 c.requires.le_n.1 a.k c.requires.k_value.0 c.requires.k_value.1
-          _ _ _ c.run_start.result c.pointer_at-old.result c.table.ensures.0 c.pointer_at-old.ensures.0 c.put_run.ensures c.run_start.ensures c.put_pointer.ensures }
+    record {
+      layout = search rules;
+      recountable = head_countable a.p a.b.now c.requires.layout c.requires.lawful_some.1 a.f.0 c.requires.parent a.n c.requires.le_n.0 c.requires.le_n.1 a.k c.requires.k_value.0 c.requires.k_value.1
+          _ _ _ c.run_start.result c.pointer_at-old.result c.table.ensures.0 c.pointer_at-old.ensures.0 c.put_run.ensures c.run_start.ensures c.put_pointer.ensures;
+    }
 
 pub returns : goal.returns
 returns c =

@@ -1,4 +1,3 @@
-use Prim.Native.Nat.{◌-◌}
 use Rattle.files.proofs.ReleaseLaws.{clearing_none, clearing_place, clearing_room, clearing_more, clearing_end}
 use borrow.Author.Rules.{rules}
 use Rattle.files.proofs.release.clear_runs.Goals as goal

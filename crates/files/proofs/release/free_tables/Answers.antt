@@ -1,6 +1,5 @@
 use native.Mathlib.Omega.{arith}
 use Rattle.files.proofs.ReleaseLaws.{freeing_none, freeing_layout, freeing_in, freeing_within, freeing_few, freeing_more, freeing_end}
-use Prim.Native.Nat.{◌-◌}
 use borrow.Author.Rules.{rules}
 use Rattle.files.proofs.release.free_tables.Goals as goal
 

@@ -1,8 +1,7 @@
 use mathlib.Core.Path.{refl}
-use Prim.Native.Nat.{◌-◌}
 use native.Mathlib.Omega.{arith}
-use lib.ListN.{length, length-set}
-use lib.Seq.{paste, paste-zero}
+use lib.ListN.{length-set}
+use lib.Seq.{paste-zero}
 use Rattle.files.specs.Moves.{exchanged}
 use Rattle.files.proofs.SectorLaws.{exchange_more, exchange_end}
 use Rattle.files.proofs.sectors.exchange_sector.Goals as goal

@@ -1,4 +1,3 @@
-use Prim.Native.Nat.{◌-◌}
 use mathlib.Core.Path.{refl}
 use Rattle.files.proofs.RecountLaws.{zones_none, zones_more, zones_end}
 use borrow.Author.Rules.{rules}

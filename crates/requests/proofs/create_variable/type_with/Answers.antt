@@ -1,5 +1,4 @@
 use native.Mathlib.Omega.{arith}
-use Prim.Native.Nat.{◌-◌}
 use Rattle.requests.proofs.FixedLaws.{none_yet, cell_hit, cell_small, cell_more, cell_end}
 use borrow.Author.Rules.{rules}
 use Rattle.requests.proofs.create_variable.type_with.Goals as goal

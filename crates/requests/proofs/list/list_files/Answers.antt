@@ -1,5 +1,4 @@
 use native.Mathlib.Omega.{arith}
-use Prim.Native.Nat.{◌-◌}
 use Rattle.requests.proofs.ListLaws.{filled_none, filled_more, filled_all}
 use borrow.Author.Rules.{rules}
 use Rattle.requests.proofs.list.list_files.Goals as goal

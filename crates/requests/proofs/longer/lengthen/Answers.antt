@@ -13,8 +13,12 @@ grow_counts-counts-requires c = search (lengthen_good, lengthen_parent)
 
 pub grow_file-requires : goal.grow_file-requires
 grow_file-requires c =
-    record { provided_some = lengthen_adds _ _ _ _ c.read_places-p.ensures _ c.table.ensures.0 _ c.byte_length.ensures
-          _ c.requires.good_some c.requires.gate c.if-byte_length-long.false c.grow_counts-counts.ensures; parent = search lengthen_parent; date_len = search rules }
+    record {
+      provided_some = lengthen_adds _ _ _ _ c.read_places-p.ensures _ c.table.ensures.0 _ c.byte_length.ensures
+          _ c.requires.good_some c.requires.gate c.if-byte_length-long.false c.grow_counts-counts.ensures;
+      parent = search lengthen_parent;
+      date_len = search rules;
+    }
 
 pub returns : goal.returns
 returns c = search lengthen_done

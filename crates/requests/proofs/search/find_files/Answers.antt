@@ -1,5 +1,4 @@
 use native.Mathlib.Omega.{arith}
-use Prim.Native.Nat.{◌-◌}
 use Rattle.requests.proofs.SearchRequestLaws.{sought_none, sought_more, sought_all}
 use borrow.Author.Rules.{rules}
 use Rattle.requests.proofs.search.find_files.Goals as goal

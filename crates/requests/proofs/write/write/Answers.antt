@@ -10,8 +10,12 @@ returns-then-n-eq0 c = search write_nothing
 
 pub put_written-requires : goal.put_written-requires
 put_written-requires c =
-    let h = c.write_number-m.ensures in record { good_some = write_good _ _ _ _ _ _ _ _ _ h c.if-m-ne0.false; parent = write_parent _ _ _ _ _ _ _ _ _ h c.if-m-ne0.false; writes = write_writes _ _ _ _ _ _ _ _ _ h c.if-m-ne0.false
-            _ _ _ c.number_of-at.ensures c.number_of.ensures c.whole_sectors-n.ensures.0 c.if-n-eq0.false }
+    let h = c.write_number-m.ensures in record {
+      good_some = write_good _ _ _ _ _ _ _ _ _ h c.if-m-ne0.false;
+      parent = write_parent _ _ _ _ _ _ _ _ _ h c.if-m-ne0.false;
+      writes = write_writes _ _ _ _ _ _ _ _ _ h c.if-m-ne0.false
+          _ _ _ c.number_of-at.ensures c.number_of.ensures c.whole_sectors-n.ensures.0 c.if-n-eq0.false;
+    }
 
 pub read_places-requires : goal.read_places-requires
 read_places-requires c =

@@ -17,10 +17,11 @@ use requests::set_protection::set_protection;
 use requests::show::show_number;
 use requests::space::{Space, space_of};
 use requests::temporary_delete::temporary_delete;
+use std::io;
 use tables::counts::chosen_types;
 
 // Formats the books for Z zones and N index tables.
-pub fn format_books(b: &mut [u8], zones: u32, indexes: u32) {
+pub fn format_books(rt: &impl Print, b: &mut [u8], zones: u32, indexes: u32) -> io::Result<()> {
     let n = format(
         b,
         Amount::Is(zones),
@@ -32,27 +33,27 @@ pub fn format_books(b: &mut [u8], zones: u32, indexes: u32) {
         b"CODE",
         b"\x07\xea\x01\x02\x03\x04",
     );
-    say_number(b"format Z=", zones);
-    say_number(b" N=", indexes);
-    say_number(b" number=", n);
-    say(b"\n");
+    say_number(rt, b"format Z=", zones)?;
+    say_number(rt, b" N=", indexes)?;
+    say_number(rt, b" number=", n)?;
+    say(rt, b"\n")
 }
 
-pub fn mount_books(b: &mut [u8]) {
-    say_number(b"mount number=", mount(b, &[0u32; 0]));
-    say(b"\n");
+pub fn mount_books(rt: &impl Print, b: &mut [u8]) -> io::Result<()> {
+    say_number(rt, b"mount number=", mount(b, &[0u32; 0]))?;
+    say(rt, b"\n")
 }
 
-pub fn formatted(zones: u32, indexes: u32) -> [u8; 5120] {
+pub fn formatted(rt: &impl Print, zones: u32, indexes: u32) -> io::Result<[u8; 5120]> {
     let mut card = [0u8; 5120];
-    format_books(&mut card, zones, indexes);
-    card
+    format_books(rt, &mut card, zones, indexes)?;
+    Ok(card)
 }
 
-pub fn mounted(card: [u8; 5120]) -> [u8; 5120] {
+pub fn mounted(rt: &impl Print, card: [u8; 5120]) -> io::Result<[u8; 5120]> {
     let mut after = card;
-    mount_books(&mut after);
-    after
+    mount_books(rt, &mut after)?;
+    Ok(after)
 }
 
 // This paper's number of an answer.
@@ -72,7 +73,15 @@ fn id_of(made: Created) -> u32 {
 }
 
 // Create fixed on `after`, which holds what `before` holds.
-pub fn create_on(step: &[u8], before: &[u8], after: &mut [u8], name: &[u8], size: i32, flag: i32) {
+pub fn create_on(
+    rt: &impl Print,
+    step: &[u8],
+    before: &[u8],
+    after: &mut [u8],
+    name: &[u8],
+    size: i32,
+    flag: i32,
+) -> io::Result<()> {
     let date = b"\x07\xea\x01\x02\x03\x05";
     let made = create_fixed(
         after,
@@ -83,32 +92,57 @@ pub fn create_on(step: &[u8], before: &[u8], after: &mut [u8], name: &[u8], size
         0,
         date,
     );
-    say_file(step, number_of(made), id_of(made), before, after);
+    say_file(rt, step, number_of(made), id_of(made), before, after)
 }
 
-pub fn create(step: &[u8], card: [u8; 5120], name: &[u8], size: i32, flag: i32) -> [u8; 5120] {
+pub fn create(
+    rt: &impl Print,
+    step: &[u8],
+    card: [u8; 5120],
+    name: &[u8],
+    size: i32,
+    flag: i32,
+) -> io::Result<[u8; 5120]> {
     let mut after = card;
-    create_on(step, &card, &mut after, name, size, flag);
-    after
+    create_on(rt, step, &card, &mut after, name, size, flag)?;
+    Ok(after)
 }
 
-pub fn create_cell(step: &[u8], card: [u8; 5120], name: &[u8], cell: i32) -> [u8; 5120] {
+pub fn create_cell(
+    rt: &impl Print,
+    step: &[u8],
+    card: [u8; 5120],
+    name: &[u8],
+    cell: i32,
+) -> io::Result<[u8; 5120]> {
     let mut after = card;
     let date = b"\x07\xea\x01\x02\x03\x05";
     let made = create_variable(&mut after, &[0u32; 0], name, amount_of(cell), 0, date);
-    say_file(step, number_of(made), id_of(made), &card, &after);
-    after
+    say_file(rt, step, number_of(made), id_of(made), &card, &after)?;
+    Ok(after)
 }
 
-pub fn grow_to(step: &[u8], card: [u8; 5120], id: u32, long: i32) -> [u8; 5120] {
+pub fn grow_to(
+    rt: &impl Print,
+    step: &[u8],
+    card: [u8; 5120],
+    id: u32,
+    long: i32,
+) -> io::Result<[u8; 5120]> {
     let mut after = card;
     let date = b"\x07\xea\x01\x02\x03\x06";
     let number = grow(&mut after, &[0u32; 0], id, amount_of(long), date);
-    say_file(step, number, id, &card, &after);
-    after
+    say_file(rt, step, number, id, &card, &after)?;
+    Ok(after)
 }
 
-pub fn remove(step: &[u8], card: [u8; 5120], body: &mut [u8], id: u32) -> [u8; 5120] {
+pub fn remove(
+    rt: &impl Print,
+    step: &[u8],
+    card: [u8; 5120],
+    body: &mut [u8],
+    id: u32,
+) -> io::Result<[u8; 5120]> {
     let mut after = card;
     let number = temporary_delete(
         &mut after,
@@ -117,11 +151,17 @@ pub fn remove(step: &[u8], card: [u8; 5120], body: &mut [u8], id: u32) -> [u8; 5
         id,
         b"\x07\xea\x01\x02\x03\x07",
     );
-    say_state(step, number, id, &card, &after);
-    after
+    say_state(rt, step, number, id, &card, &after)?;
+    Ok(after)
 }
 
-pub fn restore(step: &[u8], card: [u8; 5120], body: &mut [u8], id: u32) -> [u8; 5120] {
+pub fn restore(
+    rt: &impl Print,
+    step: &[u8],
+    card: [u8; 5120],
+    body: &mut [u8],
+    id: u32,
+) -> io::Result<[u8; 5120]> {
     let mut after = card;
     let number = recover(
         &mut after,
@@ -130,11 +170,17 @@ pub fn restore(step: &[u8], card: [u8; 5120], body: &mut [u8], id: u32) -> [u8; 
         id,
         b"\x07\xea\x01\x02\x03\x08",
     );
-    say_state(step, number, id, &card, &after);
-    after
+    say_state(rt, step, number, id, &card, &after)?;
+    Ok(after)
 }
 
-pub fn delete(step: &[u8], card: [u8; 5120], body: &mut [u8], id: u32) -> [u8; 5120] {
+pub fn delete(
+    rt: &impl Print,
+    step: &[u8],
+    card: [u8; 5120],
+    body: &mut [u8],
+    id: u32,
+) -> io::Result<[u8; 5120]> {
     let mut after = card;
     let number = actual_delete(
         &mut after,
@@ -143,11 +189,17 @@ pub fn delete(step: &[u8], card: [u8; 5120], body: &mut [u8], id: u32) -> [u8; 5
         id,
         b"\x07\xea\x01\x02\x03\x09",
     );
-    say_state(step, number, id, &card, &after);
-    after
+    say_state(rt, step, number, id, &card, &after)?;
+    Ok(after)
 }
 
-pub fn protect(step: &[u8], card: [u8; 5120], id: u32, weights: u32) -> [u8; 5120] {
+pub fn protect(
+    rt: &impl Print,
+    step: &[u8],
+    card: [u8; 5120],
+    id: u32,
+    weights: u32,
+) -> io::Result<[u8; 5120]> {
     let mut after = card;
     let number = set_protection(
         &mut after,
@@ -156,8 +208,8 @@ pub fn protect(step: &[u8], card: [u8; 5120], id: u32, weights: u32) -> [u8; 512
         weights,
         b"\x07\xea\x01\x02\x03\x0a",
     );
-    say_state(step, number, id, &card, &after);
-    after
+    say_state(rt, step, number, id, &card, &after)?;
+    Ok(after)
 }
 
 // This paper's number and value of an answer.
@@ -176,56 +228,64 @@ fn answer_value(answer: Answer) -> u32 {
 }
 
 // Search with a list of two.
-pub fn find(b: &[u8], pattern: &[u8]) {
+pub fn find(rt: &impl Print, b: &[u8], pattern: &[u8]) -> io::Result<()> {
     let mut ids = [0u32; 2];
     let answer = search(b, &[0u32; 0], pattern, &mut ids);
-    say(b"search ");
-    say(pattern);
-    say_ids(answer_number(answer), answer_value(answer), ids[0], ids[1]);
+    say(rt, b"search ")?;
+    say(rt, pattern)?;
+    say_ids(
+        rt,
+        answer_number(answer),
+        answer_value(answer),
+        ids[0],
+        ids[1],
+    )
 }
 
 // List with room for two: each entry begins with the file's id.
-pub fn list_from(b: &[u8], from: u32) {
+pub fn list_from(rt: &impl Print, b: &[u8], from: u32) -> io::Result<()> {
     let mut entries = [0u8; 128];
     let answer = list(b, &[0u32; 0], from, &mut entries);
-    say_number(b"list ", from);
+    say_number(rt, b"list ", from)?;
     say_ids(
+        rt,
         answer_number(answer),
         answer_value(answer),
         word(&entries, 0),
         word(&entries, 64),
-    );
+    )
 }
 
-pub fn locate_place(b: &[u8], id: u32, k: u32) {
-    say_number(b"locate ", id);
-    say_number(b" ", k);
+pub fn locate_place(rt: &impl Print, b: &[u8], id: u32, k: u32) -> io::Result<()> {
+    say_number(rt, b"locate ", id)?;
+    say_number(rt, b" ", k)?;
     let found = locate(b, &[0u32; 0], id, k);
     match found {
-        Located::At(s) => say_number(b" sector=", s.0),
-        Located::Refused(n) => say_number(b" number=", n),
+        Located::At(s) => say_number(rt, b" sector=", s.0)?,
+        Located::Refused(n) => say_number(rt, b" number=", n)?,
     }
-    say(b"\n");
+    say(rt, b"\n")
 }
 
 // Show wants the body.
-pub fn show_nothing(b: &[u8], id: u32) {
+pub fn show_nothing(rt: &impl Print, b: &[u8], id: u32) -> io::Result<()> {
     say_number(
+        rt,
         b"show without a body number=",
         show_number(b, &[0u32; 0], b"", id, 0),
-    );
-    say(b"\n");
+    )?;
+    say(rt, b"\n")
 }
 
 // Space: refused if the books break a rule.
-pub fn space(b: &[u8]) {
+pub fn space(rt: &impl Print, b: &[u8]) -> io::Result<()> {
     let s = space_of(b, &[0u32; 0]);
     match s {
         Space::Is(sectors, used) => {
-            say_number(b"space sectors=", sectors);
-            say_number(b" used=", used);
+            say_number(rt, b"space sectors=", sectors)?;
+            say_number(rt, b" used=", used)?;
         }
-        Space::Refused(n) => say_number(b"space number=", n),
+        Space::Refused(n) => say_number(rt, b"space number=", n)?,
     }
-    say(b"\n");
+    say(rt, b"\n")
 }

@@ -11,18 +11,19 @@ use requests::recover::recover;
 use requests::show::show;
 use requests::temporary_delete::temporary_delete;
 use requests::write::write;
+use std::io;
 use tables::counts::chosen_types;
 
 // The number and how many bytes were moved.
-fn say_moved(answer: Answer) {
+fn say_moved(rt: &impl Print, answer: Answer) -> io::Result<()> {
     match answer {
-        Answer::Done(n) => say_number(b" number=0 moved=", n),
-        Answer::Refused(n) => say_number(b" moved=0 number=", n),
+        Answer::Done(n) => say_number(rt, b" number=0 moved=", n),
+        Answer::Refused(n) => say_number(rt, b" moved=0 number=", n),
     }
 }
 
 // A fixed file of 5,000 bytes in blocks of one sector.
-pub fn make(step: &[u8], books: &mut [u8], name: &[u8]) {
+pub fn make(rt: &impl Print, step: &[u8], books: &mut [u8], name: &[u8]) -> io::Result<()> {
     let date = b"\x07\xea\x01\x02\x03\x05";
     let made = create_fixed(
         books,
@@ -33,15 +34,16 @@ pub fn make(step: &[u8], books: &mut [u8], name: &[u8]) {
         0,
         date,
     );
-    say(step);
+    say(rt, step)?;
     match made {
-        Created::Done(id) => say_number(b" number=0 id=", id.0),
-        Created::Refused(n) => say_number(b" number=", n),
+        Created::Done(id) => say_number(rt, b" number=0 id=", id.0)?,
+        Created::Refused(n) => say_number(rt, b" number=", n)?,
     }
-    say(b"\n");
+    say(rt, b"\n")
 }
 
 pub fn write_at(
+    rt: &impl Print,
     step: &[u8],
     books: &mut [u8],
     body: &mut [u8],
@@ -49,64 +51,72 @@ pub fn write_at(
     length: i32,
     exchange: bool,
     input: &[u8],
-) {
+) -> io::Result<()> {
     let date = b"\x07\xea\x01\x02\x03\x0b";
     let at = amount_of(position);
     let long = amount_of(length);
     let answer = write(books, &[0u32; 0], body, 1, at, long, exchange, input, date);
-    say(step);
-    say_moved(answer);
-    say(b"\n");
+    say(rt, step)?;
+    say_moved(rt, answer)?;
+    say(rt, b"\n")
 }
 
 // Reads into a buffer of 85s, and says its first two bytes and its last one.
-pub fn read_at(step: &[u8], books: &[u8], body: &[u8], position: i32, length: i32, exchange: bool) {
+pub fn read_at(
+    rt: &impl Print,
+    step: &[u8],
+    books: &[u8],
+    body: &[u8],
+    position: i32,
+    length: i32,
+    exchange: bool,
+) -> io::Result<()> {
     let mut out = [85u8; 5120];
     let at = amount_of(position);
     let long = amount_of(length);
     let answer = read(books, &[0u32; 0], body, 1, at, long, exchange, &mut out);
-    say(step);
-    say_moved(answer);
-    say(b" first=");
-    say_pair(wide(out[0]), wide(out[1]));
-    say_number(b" last=", wide(out[5119]));
-    say(b"\n");
+    say(rt, step)?;
+    say_moved(rt, answer)?;
+    say(rt, b" first=")?;
+    say_pair(rt, wide(out[0]), wide(out[1]))?;
+    say_number(rt, b" last=", wide(out[5119]))?;
+    say(rt, b"\n")
 }
 
 // The k-th sector as it lies in the body: how long the part is, and its first two bytes.
-pub fn show_at(books: &[u8], body: &[u8], k: u32) {
+pub fn show_at(rt: &impl Print, books: &[u8], body: &[u8], k: u32) -> io::Result<()> {
     let part = show(books, &[0u32; 0], body, 1, k);
-    say_number(b"show ", k);
+    say_number(rt, b"show ", k)?;
     if part.len() < 2 {
-        say(b" nothing\n");
-        return;
+        return say(rt, b" nothing\n");
     }
-    say(b" len=");
-    io::print_decimal(1, part.len() as u64);
-    say(b" first=");
-    say_pair(wide(part[0]), wide(part[1]));
-    say(b"\n");
+    say(rt, b" len=")?;
+    print!(rt; "{}", part.len())?;
+    say(rt, b" first=")?;
+    say_pair(rt, wide(part[0]), wide(part[1]))?;
+    say(rt, b"\n")
 }
 
-pub fn mark(books: &mut [u8], body: &mut [u8], id: u32) {
+pub fn mark(rt: &impl Print, books: &mut [u8], body: &mut [u8], id: u32) -> io::Result<()> {
     let date = b"\x07\xea\x01\x02\x03\x0c";
     let number = temporary_delete(books, &[0u32; 0], body, id, date);
-    say_number(b"temporary delete number=", number);
-    say(b"\n");
+    say_number(rt, b"temporary delete number=", number)?;
+    say(rt, b"\n")
 }
 
-pub fn take_back(books: &mut [u8], body: &mut [u8], id: u32) {
+pub fn take_back(rt: &impl Print, books: &mut [u8], body: &mut [u8], id: u32) -> io::Result<()> {
     let date = b"\x07\xea\x01\x02\x03\x0d";
     say_number(
+        rt,
         b"recover number=",
         recover(books, &[0u32; 0], body, id, date),
-    );
-    say(b"\n");
+    )?;
+    say(rt, b"\n")
 }
 
-pub fn give_back(books: &mut [u8], body: &mut [u8], id: u32) {
+pub fn give_back(rt: &impl Print, books: &mut [u8], body: &mut [u8], id: u32) -> io::Result<()> {
     let date = b"\x07\xea\x01\x02\x03\x0e";
     let number = actual_delete(books, &[0u32; 0], body, id, date);
-    say_number(b"actual delete number=", number);
-    say(b"\n");
+    say_number(rt, b"actual delete number=", number)?;
+    say(rt, b"\n")
 }

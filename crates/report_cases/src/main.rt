@@ -2,32 +2,51 @@
 // The card on standard input: Z=4, N=8, S=5, mounted, one plain file of 5,000 bytes at (1024,4) and (2048,1).
 #![tactic(auto)]
 
-use requests::report::report;
+ghost use Rattle.std.specs.Prelude.{◌≤◌, length, IfOk};
 
-fn show(books: &[u8]) {
+use requests::report::report;
+use std::io;
+use std::io::Read;
+
+// Reads until the buffer is full or the input ends, and says how many bytes there are.
+fn read_full(input: &mut impl Read, buffer: &mut [u8]) -> io::Result<usize>
+    ensures { IfOk result (λ n. n ≤ length buffer.new) }
+{
+    let mut done = 0;
+    while done < buffer.len() {
+        let n = input.read(&mut buffer[done..])?;
+        if n == 0 {
+            break;
+        }
+        done += n;
+    }
+    Ok(done)
+}
+
+fn show(rt: &impl Print, books: &[u8]) -> io::Result<()> {
     let t = report(books, &[0u32; 0]);
     let length = t.length;
     let bytes = t.bytes;
-    io::write_all(1, &bytes[..length]);
+    rt.write_all(&bytes[..length])
 }
 
-fn main() {
+fn main(rt: HostRuntime) -> io::Result<()> {
     let mut books = [0u8; 5120];
-    let n = io::read_full(0, &mut books);
-    show(&books[..n]);
+    let n = read_full(&mut rt.stdin(), &mut books)?;
+    show(&rt, &books[..n])?;
     // no whole number of sectors: 1
     let short = [0u8; 5119];
-    show(&short);
+    show(&rt, &short)?;
     // a wrong mark: 2
     let mut marked = books;
     marked[0] = 0;
-    show(&marked);
+    show(&rt, &marked)?;
     // Z = 2: 3
     let mut zoned = books;
     zoned[133] = 2;
-    show(&zoned);
+    show(&rt, &zoned)?;
     // sector 1029 set, and under no pointer: 4
     let mut set = books;
     set[3200] = 252;
-    show(&set);
+    show(&rt, &set)
 }

@@ -47,7 +47,7 @@ use Rattle.requests.proofs.ListLaws.{listed_one}
 use Rattle.requests.specs.Locate.{number_of as located_number, sector_value, Locates}
 use Rattle.requests.proofs.LocateLaws.{located_one}
 use Rattle.requests.specs.Read.{ReadOut}
-use Rattle.requests.proofs.ReadLaws.{read_one as read-out-one}
+use Rattle.requests.proofs.ReadLaws.{read_one as read_out_one}
 use Rattle.requests.specs.Write.{Wrote}
 use Rattle.requests.proofs.WriteLaws.{wrote_one}
 use Rattle.isc.specs.Border.{AnswerOut, CreateOut, LocateOut, SpaceOut, BrokenOut, Lines, TextOut, TextRoom, ReportLines, BrokenLines}
@@ -167,7 +167,7 @@ list_one b withheld from entries x y r r' n n' = answer_one _ _ _ r r' n n' (λ 
 
 pub read_one : (b withheld body : List ℕ) (id : ℕ) (at long : Amount) (exchange : Bool) (out x y : List ℕ) (r r' n n' : ℕ)
     → AnswerOut (λ answer. ReadOut b withheld body id at long exchange out answer x) r n → AnswerOut (λ answer. ReadOut b withheld body id at long exchange out answer y) r' n' → (r ≡ r') × (n ≡ n') × (x ≡ y)
-read_one b withheld body id at long exchange out x y r r' n n' = answer_one _ _ _ r r' n n' (λ a c. read-out-one b withheld body id at long exchange out a c x y)
+read_one b withheld body id at long exchange out x y r r' n n' = answer_one _ _ _ r r' n n' (λ a c. read_out_one b withheld body id at long exchange out a c x y)
 
 pub write_one : (b withheld body : List ℕ) (id : ℕ) (at long : Amount) (exchange : Bool) (input date x y u w : List ℕ) (r r' n n' : ℕ)
     → AnswerOut (λ answer. Wrote b withheld body id at long exchange input date answer x u) r n → AnswerOut (λ answer. Wrote b withheld body id at long exchange input date answer y w) r' n' → (r ≡ r') × (n ≡ n') × (x ≡ y) × (u ≡ w)

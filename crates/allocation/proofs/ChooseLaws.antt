@@ -2,7 +2,7 @@
 -- entries and sectors only. No other law looks into the choice.
 use mathlib.Core.Path.{◌≡◌, refl, sym, ◌∙◌}
 use mathlib.Core.Logic.{inl, ⊎_elim}
-use mathlib.Core.Bool.{Bool, true, false, true≢false}
+use mathlib.Core.Bool.{true, false, true≢false}
 use mathlib.Core.List.{List, ◌∷◌}
 use Prim.Native.Nat.{ℕ}
 use native.Mathlib.Decide.{dec_lt}
@@ -64,17 +64,17 @@ choose_ground v v' g l t =
 
 -- ---- the function that chooses
 
-module _ (p : Places) (b : List ℕ) (l : Tail) (t : ℕ) (r : Bool) (is : r ≡ has_neighbour (view_of p b) l t) where
+module _ (p : Places) (b : List ℕ) (l : Tail) (t : ℕ) where
   abbrev v : View
   v = view_of p b
 
   -- the next search may begin where this one would have
-  pub chooses_neighbour : (k from : Found) → DataType t → R3 v → Behind v t from → r ≡ true → k ≡ neighbour v l t → Chooses v l t (record { block = k; from = from })
+  pub chooses_neighbour : (k from : Found) → DataType t → R3 v → Behind v t from → (has_neighbour v l t ≡ true) × (k ≡ neighbour v l t) → Chooses v l t (record { block = k; from = from })
   unfolding neighbour
-  chooses_neighbour k from typed r3 h q e =
-      let n = neighbour_says v l t (sym is ∙ q) in
+  chooses_neighbour k from typed r3 h (q, e) =
+      let n = neighbour_says v l t q in
       record {
-        block = e ∙ sym (choose_neighbour v l t (sym is ∙ q));
+        block = e ∙ sym (choose_neighbour v l t q);
         behind = h;
         before = rw e (elim (dec_lt (zone_of (end_sector l)) from.zone.0) [
           | yes x ↦ absurd (true≢false (sym (neighbour_begun v l t typed n r3) ∙ h.zones (zone_of (end_sector l)) x (omega (arith, n.low))))
@@ -83,6 +83,6 @@ module _ (p : Places) (b : List ℕ) (l : Tail) (t : ℕ) (r : Bool) (is : r ≡
       }
 
   -- it may begin at the next block
-  pub chooses_next : (k : Found) → Layout p (length b) → r ≡ false → k ≡ next_block v t → Chooses v l t (record { block = k; from = k })
+  pub chooses_next : (k : Found) → Layout p (length b) → has_neighbour v l t ≡ false → k ≡ next_block v t → Chooses v l t (record { block = k; from = k })
   chooses_next k h q e =
-      record { block = e ∙ sym (choose_next v l t (sym is ∙ q)); behind = rw e (next_behind v t (omega (arith, h.least))); before = omega arith }
+      record { block = e ∙ sym (choose_next v l t q); behind = rw e (next_behind v t (omega (arith, h.least))); before = omega arith }

@@ -5,7 +5,9 @@ use mathlib.Core.Bool.{Bool, true, false}
 use Prim.Native.Nat.{ℕ, zero, suc, ◌+◌, ◌-◌, ◌≤◌, ◌<◌}
 use native.Mathlib.Decide.{dec_lt}
 use native.Mathlib.Omega.{arith}
-use Rattle.allocation.specs.Find.{find}
+use Rattle.std.specs.Prelude.{Option, Some, None, MatchOption, unwrap_or}
+use Rattle.tables.specs.declared.kinds.Zone.{Zone}
+use Rattle.allocation.specs.Find.{find, ZoneFound}
 
 -- a test passes or fails
 pub either : (t : Bool) → (t ≡ true) ⊎ (t ≡ false)
@@ -76,15 +78,6 @@ module _ (test : ℕ → Bool) where
         | no l ↦ omega arith
       ]
 
-  -- of n numbers, one at least: the first of them passes, or fails
-  pub find_here : (n from : ℕ) → 0 < n → test from ≡ true → find test n from ≡ from
-  find_here zero from l e = absurd (omega arith)
-  find_here (suc n) from l e = find_hit n from e
-
-  pub find_next : (n from : ℕ) → 0 < n → test from ≡ false → find test n from ≡ find test (n - 1) (from + 1)
-  find_next zero from l e = absurd (omega arith)
-  find_next (suc n) from l e = let d : suc n - 1 ≡ n = omega arith in let f : from + 1 ≡ suc from = omega arith in rw (d, f) (find_miss n from e)
-
 -- tests that agree on the numbers find the same
 pub find_same : (test test' : ℕ → Bool) (n from : ℕ) → ((j : ℕ) → j < from + n → from ≤ j → test' j ≡ test j) → find test' n from ≡ find test n from
 find_same test test' zero from f = find_end test' from ∙ sym (find_end test from)
@@ -108,3 +101,20 @@ module _ (test : ℕ → Bool) (from last k : ℕ) (low : from ≤ k) (high : k 
   search_end l =
       let e : from + (last - from) ≡ k = omega arith in
       sym (find_all test (last - from) from (λ j lj hj. none j (omega arith) hj) ∙ e)
+
+-- ---- what `find` over a range finds
+
+-- r is the first number from `from` on that passes, below `last`; none where none passes
+abbrev pub FirstIn : (ℕ → Bool) → ℕ → ℕ → Option ℕ → Type 0
+FirstIn test from last r =
+    MatchOption r ((k : ℕ) → from ≤ k → k < last → test k ≡ false)
+    (λ i. (from ≤ i) × (i < last) × (test i ≡ true) × ((k : ℕ) → from ≤ k → k < i → test k ≡ false))
+
+pub number_found : (test : ℕ → Bool) (from last : ℕ) (r : Option ℕ) → from ≤ last → FirstIn test from last r → unwrap_or r last ≡ find test (last - from) from
+number_found test from last None le none = search_end test from last last le (omega arith) (λ j l h. none j h l) (omega arith)
+number_found test from last (Some i) le h = search_hit test from last i h.0 (omega arith) (λ j l k. h.3 j k l) h.1 h.2
+
+pub zone_found : (test : ℕ → Bool) (from last : ℕ) (r : Option ℕ) (z : Option Zone) → from ≤ last → FirstIn test from last r
+    → MatchOption r (z ≡ None) (λ i. z ≡ Some (record { 0 = i })) → ZoneFound last (find test (last - from) from) z
+zone_found test from last None z le none q = rw q (sym (search_end test from last last le (omega arith) (λ j l h. none j h l) (omega arith)))
+zone_found test from last (Some i) z le h q = rw q (search_hit test from last i h.0 (omega arith) (λ j l k. h.3 j k l) h.1 h.2, h.1)

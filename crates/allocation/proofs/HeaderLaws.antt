@@ -19,7 +19,7 @@ use Rattle.tables.specs.Views.{View}
 use Rattle.tables.proofs.LackLaws.{in_begun}
 use Rattle.allocation.specs.declared.choice.Found.{Found}
 use Rattle.allocation.specs.Choice.{begun, lowest_open}
-use Rattle.allocation.specs.Headers.{run_fits, lowest_run, fitting, lowest_fitting, header_place, FittingRun, HeaderRoom, BegunPlace, OpenPlace}
+use Rattle.allocation.specs.Headers.{run_fits, lowest_run, fitting, lowest_fitting, run_place, header_place, FittingRun, HeaderRoom, BegunPlace, OpenPlace}
 use Rattle.allocation.proofs.FindLaws.{find_low, find_passes, find_none, find_some, find_at, find_all}
 use Rattle.allocation.proofs.NextBlockLaws.{begun_yes, begun_no, begun_is}
 
@@ -102,13 +102,18 @@ module _ (v : View) (n z : ℕ) where
 module _ (v : View) (n z : ℕ) where
   module _ (r : ℕ) (e : ZoneEntry) (q : e ≡ v.zone z) (is : r ≡ spare_in header_type e) where
     -- by its entry's free sectors, and the run that is found
-    pub fitting_none : r ≡ 0 → false ≡ fitting v n z
+    pub fitting_none : r ≡ 0 → fitting v n z ≡ false
     unfolding fitting
     fitting_none h = rw (begun_no v header_type z r e q is (omega arith))
 
-    pub fitting_run : (k : ℕ) → (r ≡ 0 → ⊥) → k ≡ lowest_run v n z → ltb k (1025 - n) ≡ fitting v n z
-    unfolding fitting
-    fitting_run k h l = rw (begun_yes v header_type z r e q is (omega arith), l)
+    module _ (some : r ≡ 0 → ⊥) where
+      pub fitting_short : lowest_run v n z ≡ 1025 - n → fitting v n z ≡ false
+      unfolding fitting
+      fitting_short h = rw (begun_yes v header_type z r e q is (omega arith), le-ltb (lowest_run v n z) (1025 - n) (omega arith))
+
+      pub fitting_run : lowest_run v n z < 1025 - n → fitting v n z ≡ true
+      unfolding fitting
+      fitting_run h = rw (begun_yes v header_type z r e q is (omega arith), lt-ltb (lowest_run v n z) (1025 - n) h)
 
   -- what the test of a zone says
   fitting_is : fitting v n z ≡ true → (begun v header_type z ≡ true) × (lowest_run v n z < 1025 - n)
@@ -167,19 +172,16 @@ module _ (v : View) (n : ℕ) where
   unfolding header_place
   place_open h = rw (le-ltb (lowest_fitting v n) v.zones h)
 
-  -- the code's ways to it
-  module _ (z : Zone) (is : z.0 ≡ lowest_fitting v n) where
-    -- its zone may be looked into
-    pub place_low : 2 ≤ z.0
-    place_low = rw is (fitting_low v n)
+  -- the code's ways to it: in the zone that fits, or in the open one
+  pub place_here : lowest_fitting v n < v.zones → run_place v n (lowest_fitting v n) ≡ header_place v n
+  place_here h = sym (place_begun h)
 
-    -- in the zone that fits, or in the open one
-    pub place_here : (k f : ℕ) (e : ZoneEntry) → z.0 < v.zones → k ≡ lowest_run v n z.0 → e ≡ v.zone z.0 → f ≡ e.free - n
-        → ◌≡◌ {A = Found} (record { zone = z; number = k; free = f }) (header_place v n)
-    place_here k f e l q u w = rw (place_begun (omega arith), sym is, q, w, u)
+  module _ (none : lowest_fitting v n ≡ v.zones) where
+    pub place_there : (y : Zone) → y.0 ≡ lowest_open v → ◌≡◌ {A = Found} (record { zone = y; number = 0; free = 1024 - n }) (header_place v n)
+    place_there y q = rw (place_open (omega arith), sym q)
 
-    pub place_there : (y : Zone) → v.zones ≤ z.0 → y.0 ≡ lowest_open v → ◌≡◌ {A = Found} (record { zone = y; number = 0; free = 1024 - n }) (header_place v n)
-    place_there y l q = rw (place_open (omega arith), sym q)
+    pub place_none : lowest_open v ≡ v.zones → v.zones ≤ (header_place v n).zone.0
+    place_none q = rw (place_open (omega arith)) (omega arith)
 
   -- what the place is in either case
   begun_place : lowest_fitting v n < v.zones → BegunPlace v n (header_place v n)

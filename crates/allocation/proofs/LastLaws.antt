@@ -19,15 +19,16 @@ use Rattle.tables.specs.Rules.R5.{R5, FileChain}
 use Rattle.tables.specs.Rules.R6.{Shape, R6}
 use Rattle.tables.proofs.ChainLaws.{walk_none, walk_once}
 use Rattle.tables.proofs.IndexLaws.{slots_parent, slots_child, base_parent, base_child}
+use Rattle.std.specs.Prelude.{Option, unwrap_or}
 use Rattle.allocation.specs.declared.growth.Cursor.{Cursor}
 use Rattle.allocation.specs.Find.{find}
-use Rattle.allocation.proofs.FindLaws.{find_end, find_high, find_here, find_next, find_passes, find_none}
+use Rattle.allocation.proofs.FindLaws.{find_high, find_passes, find_none, FirstIn, number_found}
 use Rattle.allocation.specs.Last.{chain_end, last_table, used_pointers, cursor_of}
 
 -- ---- the last table of a file
 
--- the code's place i in the chain of f, with n links still allowed
-pub record Onward (v : View) (f i n : ℕ) : Type 0 where
+-- the code's place i in the chain of f, once k links are passed
+pub record Onward (v : View) (f i k : ℕ) : Type 0 where
   pub long : ℕ
   pub chain : FileChain v f long
   pub steps : ℕ
@@ -35,28 +36,26 @@ pub record Onward (v : View) (f i n : ℕ) : Type 0 where
   pub here : walk (next v) f steps ≡ i
   pub low : 1 ≤ i
   pub high : i ≤ v.indexes
-  pub ends : chain_end (next v) n i ≡ last_table v f
+  pub ends : chain_end (next v) (v.indexes - k) i ≡ last_table v f
 
 end_here : (link : ℕ → ℕ) (n i : ℕ) → link i ≡ 0 → chain_end link n i ≡ i
 unfolding chain_end
 end_here link zero i e = refl
 end_here link (suc n) i e = rw (eq-eqb (link i) 0 e)
 
-end_next : (link : ℕ → ℕ) (n i : ℕ) → 0 < n → (link i ≡ 0 → ⊥) → chain_end link n i ≡ chain_end link (n - 1) (link i)
+end_next : (link : ℕ → ℕ) (n i : ℕ) → (link i ≡ 0 → ⊥) → chain_end link (suc n) i ≡ chain_end link n (link i)
 unfolding chain_end
-end_next link zero i l ne = absurd (omega arith)
-end_next link (suc n) i l ne = let e : suc n - 1 ≡ n = omega arith in rw (ne_eqb (link i) 0 ne, e)
+end_next link n i ne = rw (ne_eqb (link i) 0 ne)
 
-end_none : (link : ℕ → ℕ) (n i : ℕ) → n ≤ 0 → chain_end link n i ≡ i
+end_none : (link : ℕ → ℕ) (i : ℕ) → chain_end link 0 i ≡ i
 unfolding chain_end
-end_none link zero i l = refl
-end_none link (suc n) i l = absurd (omega arith)
+end_none link i = refl
 
 walk_step : (f : ℕ → ℕ) (h k : ℕ) → walk f h (suc k) ≡ f (walk f h k)
 unfolding walk
 walk_step f h k = refl
 
-pub onward_none : (v : View) (f : ℕ) → R5 v → Parent v f → Onward v f f v.indexes
+pub onward_none : (v : View) (f : ℕ) → R5 v → Parent v f → Onward v f f 0
 unfolding last_table
 onward_none v f r parent = record {
   long = r.long f;
@@ -66,21 +65,21 @@ onward_none v f r parent = record {
   here = walk_none (next v) f;
   low = parent.low;
   high = parent.high;
-  ends = refl;
+  ends = let e : v.indexes - 0 ≡ v.indexes = omega arith in ap (λ (n : ℕ). chain_end (next v) n f) e;
 }
 
-module _ (v : View) (f i n : ℕ) (o : Onward v f i n) where
-  pub onward_end : n ≤ 0 → i ≡ last_table v f
-  onward_end l = sym (end_none (next v) n i l) ∙ o.ends
+module _ (v : View) (f i k : ℕ) (o : Onward v f i k) where
+  pub onward_end : v.indexes ≤ k → i ≡ last_table v f
+  onward_end l = let e : v.indexes - k ≡ 0 = omega arith in sym (ap (λ (n : ℕ). chain_end (next v) n i) e ∙ end_none (next v) i) ∙ o.ends
 
   module _ (x : ℕ) (t : List ℕ) (is : x ≡ link_of t) (of : t ≡ v.table i) where
     linked : x ≡ next v i
     linked = is ∙ ap link_of of
 
     pub onward_last : x ≡ 0 → i ≡ last_table v f
-    onward_last z = sym (end_here (next v) n i (sym linked ∙ z)) ∙ o.ends
+    onward_last z = sym (end_here (next v) (v.indexes - k) i (sym linked ∙ z)) ∙ o.ends
 
-    pub onward_more : 0 < n → (x ≡ 0 → ⊥) → Onward v f x (n - 1)
+    pub onward_more : k < v.indexes → (x ≡ 0 → ⊥) → Onward v f x (k + 1)
     onward_more some ne =
         let on : walk (next v) f (suc o.steps) ≡ x = walk_step (next v) f o.steps ∙ ap (next v) o.here ∙ sym linked in
         let further : suc o.steps ≤ o.long
@@ -89,6 +88,7 @@ module _ (v : View) (f i n : ℕ) (o : Onward v f i n) where
           | no d ↦ omega (arith, o.within)
         ] in
         let child = o.chain.each o.steps (omega (arith, further)) in
+        let e : v.indexes - k ≡ suc (v.indexes - (k + 1)) = omega arith in
         record {
           long = o.long;
           chain = o.chain;
@@ -97,7 +97,8 @@ module _ (v : View) (f i n : ℕ) (o : Onward v f i n) where
           here = on;
           low = omega (arith, on, child.low);
           high = omega (arith, on, child.high);
-          ends = ap (chain_end (next v) (n - 1)) linked ∙ sym (end_next (next v) n i some (λ e. ne (linked ∙ e))) ∙ o.ends;
+          ends = ap (chain_end (next v) (v.indexes - (k + 1))) linked
+              ∙ sym (ap (λ (n : ℕ). chain_end (next v) n i) e ∙ end_next (next v) (v.indexes - (k + 1)) i (λ e. ne (linked ∙ e))) ∙ o.ends;
         }
 
 -- ---- it is the last of the file's chain, since no chain is longer than the number of index tables
@@ -136,37 +137,12 @@ module _ (v : View) (f m : ℕ) (parent : Parent v f) (ch : FileChain v f m) whe
 abbrev pub blank_at : List ℕ → ℕ → ℕ → Bool
 blank_at t at j = eqb (u32_at t (at + 6 * j) + u16_at t (at + 6 * j + 4)) 0
 
--- the first j of the n places are used
-pub record Passing (t : List ℕ) (n at j : ℕ) : Type 0 where
-  pub high : j ≤ n
-  pub same : find (blank_at t at) (n - j) j ≡ find (blank_at t at) n 0
-
-pub passing_none : (t : List ℕ) (n at : ℕ) → Passing t n at 0
-passing_none t n at = record { high = omega arith; same = ap (λ (k : ℕ). find (blank_at t at) k 0) (let e : n - 0 ≡ n = omega arith in e) }
-
-module _ (t : List ℕ) (n at j : ℕ) (o : Passing t n at j) where
-  module _ (q : Pointer) (is : q ≡ pointer_at t (at + 6 * j)) (some : j < n) where
-    pub passing_more : (q.start.0 + q.count ≡ 0 → ⊥) → Passing t n at (j + 1)
-    passing_more ne =
-        let d : n - j - 1 ≡ n - (j + 1) = omega arith in
-        let used : (u32_at t (at + 6 * j) + u16_at t (at + 6 * j + 4) ≡ 0 → ⊥) = rw is at ne in
-        record {
-          high = omega arith;
-          same = ap (λ (k : ℕ). find (blank_at t at) k (j + 1)) (sym d)
-              ∙ sym (find_next (blank_at t at) (n - j) j (omega arith) (ne_eqb (u32_at t (at + 6 * j) + u16_at t (at + 6 * j + 4)) 0 used)) ∙ o.same;
-        }
-
-    pub passing_stop : (i : ℕ) → n ≡ slots_of i t → at ≡ base_of i t → q.start.0 + q.count ≡ 0 → j ≡ used_pointers i t
-    unfolding used_pointers
-    passing_stop i en ea z =
-        let blank : u32_at t (at + 6 * j) + u16_at t (at + 6 * j + 4) ≡ 0 = rw is at z in
-        sym (find_here (blank_at t at) (n - j) j (omega arith) (eq-eqb (u32_at t (at + 6 * j) + u16_at t (at + 6 * j + 4)) 0 blank)) ∙ o.same ∙ rw (en, ea)
-
-  pub passing_end : (i : ℕ) → n ≡ slots_of i t → at ≡ base_of i t → n ≤ j → j ≡ used_pointers i t
-  unfolding used_pointers
-  passing_end i en ea l =
-      let e : j ≡ find (blank_at t at) (n - j) j = (let d : n - j ≡ 0 = omega arith in rw d (sym (find_end (blank_at t at) j))) in
-      e ∙ o.same ∙ rw (en, ea)
+-- the code's way: the first of them
+pub used_is : (i : ℕ) (t : List ℕ) (n at : ℕ) → n ≡ slots_of i t → at ≡ base_of i t → (r : Option ℕ) → FirstIn (blank_at t at) 0 n r → unwrap_or r n ≡ used_pointers i t
+unfolding used_pointers
+used_is i t n at en ea r h =
+    let e : n - 0 ≡ n = omega arith in
+    number_found (blank_at t at) 0 n r (omega arith) h ∙ ap (λ (k : ℕ). find (blank_at t at) k 0) e ∙ rw (en, ea)
 
 module _ (i : ℕ) (t : List ℕ) where
   pub used_le : used_pointers i t ≤ slots_of i t

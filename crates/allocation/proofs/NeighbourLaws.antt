@@ -1,14 +1,12 @@
 -- The block behind a file's last pointer: what the test of it says, that it starts at the pointer's end and may be chosen, that it joins the
 -- pointer, and that zone entries and sectors alone tell it. A new file has none.
 use mathlib.Core.Path.{◌≡◌, refl, sym, ap, ◌∙◌}
-use mathlib.Core.Logic.{⊎_elim}
+use mathlib.Core.Logic.{⊎_elim, ◌≢◌}
 use mathlib.Core.Bool.{Bool, true, false, not, true≢false, and-eq-true_iff}
 use mathlib.Core.List.{List}
 use Prim.Native.Nat.{ℕ, ◌+◌, ◌-◌, ◌*◌, ◌/◌, ◌%◌, ◌≤◌, ◌<◌}
-use native.Mathlib.Decide.{ℕ_discrete, dec_lt, dec_le}
+use native.Mathlib.Decide.{dec_lt, dec_le}
 use native.Mathlib.Omega.{arith}
-use lib.Dec.{eqb}
-use lib.ListN.{length}
 use borrow.Author.Tests.{leb-true, ltb-true, eqb-true, not-true, not-false, le-leb, lt-leb, lt-ltb, le-ltb, eq-eqb, ne_eqb}
 use Rattle.field.proofs.Sums.{sum_part}
 use Rattle.tables.specs.declared.kinds.Zone.{Zone}
@@ -17,7 +15,6 @@ use Rattle.tables.specs.declared.zone.ZoneEntry.{ZoneEntry}
 use Rattle.tables.specs.Blocks.{DataType, block_of, per_zone}
 use Rattle.tables.specs.Kinds.{zone_of, first_of}
 use Rattle.tables.specs.Open.{is_open}
-use Rattle.tables.specs.Places.{Layout}
 use Rattle.tables.specs.Room.{spare_in}
 use Rattle.tables.specs.Same.{Ground}
 use Rattle.tables.specs.Views.{View, view_of}
@@ -146,7 +143,7 @@ module _ (v v' : View) (g : Ground v v') (l : Tail) (t : ℕ) where
       ap (λ (e : ZoneEntry). record { zone = record { 0 = zone_of (end_sector l) }; number = end_sector l % 1024 / block_of t; free = e.free - 1 })
       (g.zone (zone_of (end_sector l)) (omega arith) (omega (arith, n.high)))
 
--- ---- the functions that look for it and find it
+-- ---- the function that looks for it
 
 module _ (t : ℕ) (e : ZoneEntry) where
   pub of_other : (e.ztype ≡ t → ⊥) → false ≡ of_type t e
@@ -161,58 +158,49 @@ module _ (p : Places) (b : List ℕ) (l : Tail) (t end : ℕ) (is : end ≡ end_
   abbrev v : View
   v = view_of p b
 
-  absent : (Neighbour v l t → ⊥) → false ≡ has_neighbour v l t
-  absent h = sym (no_neighbour v l t h)
+  pub before_files : end < 1024 → has_neighbour v l t ≡ false
+  before_files h = no_neighbour v l t (λ n. omega (arith, n.low))
 
-  pub before_files : end < 1024 → false ≡ has_neighbour v l t
-  before_files h = absent (λ n. omega (arith, n.low))
+  pub past_files : 1024 * (p.zones - 1) ≤ end → has_neighbour v l t ≡ false
+  past_files h = no_neighbour v l t (λ n. omega (arith, n.high))
 
-  pub past_files : 1024 * (p.zones - 1) ≤ end → false ≡ has_neighbour v l t
-  past_files h = absent (λ n. omega (arith, n.high))
+  module _ (bit : ℕ) (bits : bit ≡ sector_at p b end) where
+    pub not_free : bit ≢ 0 → has_neighbour v l t ≡ false
+    not_free h = no_neighbour v l t (λ n. h (bits ∙ rw is n.clear))
 
   module _ (z : Zone) (e : ZoneEntry) (at : z.0 ≡ zone_of end) (q : e ≡ zone_at p b z.0) where
     entry_is : e ≡ zone_at p b (zone_of (end_sector l))
     entry_is = q ∙ ap (zone_at p b) (at ∙ ap zone_of is)
 
-    pub other_zone : (r : Bool) → r ≡ of_type t e → not r ≡ true → false ≡ has_neighbour v l t
+    pub other_zone : (r : Bool) → r ≡ of_type t e → not r ≡ true → has_neighbour v l t ≡ false
     unfolding of_type
-    other_zone r o h = absent (λ n. true≢false (sym (rw (entry_is, eq-eqb _ _ n.ztype, n.shut) refl) ∙ sym o ∙ not-true r h))
+    other_zone r o h = no_neighbour v l t (λ n. true≢false (sym (rw (entry_is, eq-eqb _ _ n.ztype, n.shut) refl) ∙ sym o ∙ not-true r h))
 
-    pub not_at_start : (size : ℕ) → size ≡ block_of t → (end % 1024 % size ≡ 0 → ⊥) → false ≡ has_neighbour v l t
-    not_at_start size s h = absent (λ n. h (rw (is, s) n.start))
+    module _ (size : ℕ) (sz : size ≡ block_of t) where
+      pub not_at_start : end % 1024 % size ≢ 0 → has_neighbour v l t ≡ false
+      not_at_start h = no_neighbour v l t (λ n. h (rw (is, sz) n.start))
 
-    pub free_or_not : (r : Bool) (size bit : ℕ) → 1024 ≤ end → end < 1024 * (p.zones - 1) → r ≡ of_type t e → not r ≡ false → size ≡ block_of t → end % 1024 % size ≡ 0
-        → bit ≡ sector_at p b end → eqb bit 0 ≡ has_neighbour v l t
-    unfolding of_type
-    free_or_not r size bit lo hi o h sz start bits =
-        let both = (and-eq-true_iff _ _).0 (sym o ∙ not-false r h) in
-        elim (ℕ_discrete bit 0) [
-          | yes h ↦ eq-eqb bit 0 h ∙ sym (says_neighbour v l t (record {
-            low = rw (← is) lo;
-            high = rw (← is) hi;
-            ztype = rw (← entry_is) (eqb-true _ _ both.0);
-            shut = rw (← entry_is) (not-true _ both.1);
-            start = rw (← is, ← sz) start;
-            clear = rw (← is) (sym bits ∙ h);
-          }))
-          | no h ↦ ne_eqb bit 0 h ∙ absent (λ n. h (bits ∙ rw is n.clear))
-        ]
+      -- all tests passed
+      module _ (r : Bool) (bit : ℕ) (lo : 1024 ≤ end) (hi : end < 1024 * (p.zones - 1)) (o : r ≡ of_type t e) (h : not r ≡ false) (start : end % 1024 % size ≡ 0) (bits : bit ≡ sector_at p b end) (clear : bit ≡ 0) where
+        passed : Neighbour v l t
+        unfolding of_type
+        passed =
+            let both = (and-eq-true_iff _ _).0 (sym o ∙ not-false r h) in
+            record {
+              low = rw (← is) lo;
+              high = rw (← is) hi;
+              ztype = rw (← entry_is) (eqb-true _ _ both.0);
+              shut = rw (← entry_is) (not-true _ both.1);
+              start = rw (← is, ← sz) start;
+              clear = rw (← is) (sym bits ∙ clear);
+            }
 
-module _ (p : Places) (b : List ℕ) (l : Tail) (t end : ℕ) (is : end ≡ end_sector l) (h : has_neighbour (view_of p b) l t ≡ true) where
-  abbrev found : Neighbour (view_of p b) l t
-  found = neighbour_says (view_of p b) l t h
+        pub is_neighbour : has_neighbour v l t ≡ true
+        is_neighbour = says_neighbour v l t passed
 
-  pub neighbour_small : Layout p (length b) → end < 4294967296
-  neighbour_small lay = omega (arith, found.high, lay.most)
+        pub neighbour_counted : DataType t → R3 v → 1 ≤ e.free
+        neighbour_counted typed r3 = rw (q, at, is) (neighbour_some v l t typed passed r3)
 
-  module _ (z : Zone) (at : z.0 ≡ zone_of end) where
-    pub neighbour_zone : z.0 ≤ p.zones
-    neighbour_zone = omega (arith, found.high)
-
-    module _ (e : ZoneEntry) (q : e ≡ zone_at p b z.0) where
-      pub neighbour_counted : DataType t → R3 (view_of p b) → 1 ≤ e.free
-      neighbour_counted typed r3 = rw (q, at, is) (neighbour_some (view_of p b) l t typed found r3)
-
-      pub neighbour_found : (size : ℕ) → size ≡ block_of t → record { zone = z; number = end % 1024 / size; free = e.free - 1 } ≡ neighbour (view_of p b) l t
+      pub neighbour_found : record { zone = z; number = end % 1024 / size; free = e.free - 1 } ≡ neighbour v l t
       unfolding neighbour
-      neighbour_found size s = rw (q, s, is) (ap (λ (n : ℕ). record { zone = record { 0 = n }; number = end_sector l % 1024 / block_of t; free = (zone_at p b n).free - 1 }) (at ∙ ap zone_of is))
+      neighbour_found = rw (q, sz, is) (ap (λ (n : ℕ). record { zone = record { 0 = n }; number = end_sector l % 1024 / block_of t; free = (zone_at p b n).free - 1 }) (at ∙ ap zone_of is))

@@ -21,10 +21,11 @@ use Rattle.tables.proofs.BlockLaws.{data_block, block_in}
 use Rattle.tables.proofs.ChoiceLaws.{ceil_least, ceil_enough}
 use Rattle.tables.proofs.LackLaws.{in_open, in_other, in_begun}
 use Rattle.allocation.specs.declared.choice.Found.{Found}
-use Rattle.allocation.specs.Find.{find}
-use Rattle.allocation.specs.Choice.{begun, lowest_begun, is_clear, lowest_clear, begun_block, open_block, next_block, block_start}
+use Rattle.std.specs.Prelude.{Option, Some, None, unwrap_or}
+use Rattle.allocation.specs.Find.{find, ZoneFound}
+use Rattle.allocation.specs.Choice.{begun, lowest_begun, lowest_open, is_clear, lowest_clear, begun_block, open_block, next_block, block_start}
 use Rattle.allocation.specs.Candidates.{Proper, Behind}
-use Rattle.allocation.proofs.FindLaws.{either, find_skip, find_passes}
+use Rattle.allocation.proofs.FindLaws.{either, find_low, find_skip, find_passes}
 
 -- ---- blocks that begin in so many sectors
 
@@ -129,6 +130,13 @@ module _ (p : Places) (b : List ℕ) (t : ℕ) (k : Found) (proper : Proper (vie
 
 -- ---- the search from the last block on
 
+-- block 0 of the open zone that is found, of zone Z where none is
+pub open_is : (v : View) (t : ℕ) (r : Option Zone) (z : Zone) → ZoneFound v.zones (lowest_open v) r → z ≡ unwrap_or r (record { 0 = v.zones }) → (n : ℕ) → n ≡ per_zone t
+    → ◌≡◌ {A = Found} (record { zone = z; number = 0; free = n - 1 }) (open_block v t)
+unfolding open_block
+open_is v t None z q e n s = rw (e, q, s)
+open_is v t (Some y) z q e n s = rw (e, sym q.0, s)
+
 module _ (v : View) (t : ℕ) where
   pub next_begun : lowest_begun v t < v.zones → next_block v t ≡ begun_block v t (lowest_begun v t)
   unfolding next_block
@@ -145,13 +153,16 @@ module _ (v : View) (t : ℕ) where
         let e : 2 + (v.zones - 2) - last.zone.0 ≡ v.zones - last.zone.0 = omega arith in
         find_skip (begun v t) (v.zones - 2) 2 last.zone.0 behind.low (omega arith) behind.zones ∙ ap (λ (n : ℕ). find (begun v t) n last.zone.0) e
 
-    module _ (z : Zone) (is : z.0 ≡ find (begun v t) (v.zones - last.zone.0) last.zone.0) where
-      pub behind_none : (r : Found) → r ≡ open_block v t → z.0 ≡ v.zones → r ≡ next_block v t
-      behind_none r q h = q ∙ sym (next_open (omega (arith, behind_zone)))
+    -- no zone from that of the last block on, or z is the lowest
+    pub behind_none : (r : Found) → r ≡ open_block v t → find (begun v t) (v.zones - last.zone.0) last.zone.0 ≡ v.zones → r ≡ next_block v t
+    behind_none r q h = q ∙ sym (next_open (omega (arith, behind_zone)))
 
-      pub behind_spare : z.0 ≤ v.zones → z.0 ≢ v.zones → Spare t (v.zone z.0)
-      behind_spare l n =
-          begun_is v t z.0 (rw (sym is) at (find_passes (begun v t) (v.zones - last.zone.0) last.zone.0 (omega (arith, is))))
+    module _ (z : Zone) (is : z.0 ≡ find (begun v t) (v.zones - last.zone.0) last.zone.0) (high : z.0 < v.zones) where
+      pub behind_low : 2 ≤ z.0
+      behind_low = omega (arith, behind.low, find_low (begun v t) (v.zones - last.zone.0) last.zone.0)
+
+      pub behind_spare : Spare t (v.zone z.0)
+      behind_spare = begun_is v t z.0 (rw (sym is) at (find_passes (begun v t) (v.zones - last.zone.0) last.zone.0 (omega (arith, is, behind.high))))
 
       module _ (r : ℕ) (few : r ≤ last.number) (same : z.0 ≡ last.zone.0 → r ≡ last.number) (other : (z.0 ≡ last.zone.0 → ⊥) → r ≡ 0) where
         behind_blocks : (j : ℕ) → j < r → 0 ≤ j → is_clear v t z.0 j ≡ false
@@ -166,8 +177,8 @@ module _ (v : View) (t : ℕ) where
             let e : 0 + per_zone t - r ≡ per_zone t - r = omega arith in
             find_skip (is_clear v t z.0) (per_zone t) 0 r (omega arith) (omega (arith, behind.number)) behind_blocks ∙ ap (λ (n : ℕ). find (is_clear v t z.0) n r) e
 
-        pub behind_block : (n : ℕ) (e : ZoneEntry) → z.0 ≤ v.zones → z.0 ≢ v.zones → n ≡ find (is_clear v t z.0) (per_zone t - r) r → e ≡ v.zone z.0
+        pub behind_block : (n : ℕ) (e : ZoneEntry) → n ≡ find (is_clear v t z.0) (per_zone t - r) r → e ≡ v.zone z.0
             → record { zone = z; number = n; free = e.free - 1 } ≡ next_block v t
         unfolding begun_block
-        behind_block n e l ne q u =
+        behind_block n e q u =
             rw (next_begun (omega (arith, behind_zone)), behind_zone, sym is, behind_clear, q, u)

@@ -1,6 +1,6 @@
 -- A file that gets blocks goes on: each block that is laid leaves what the next one asks.
 use mathlib.Core.Path.{◌≡◌, refl, sym, ap, ◌∙◌}
-use mathlib.Core.Logic.{◌≢◌}
+use mathlib.Core.Logic.{◌≢◌, ◌⊎◌, ⊎_elim}
 use mathlib.Core.List.{List, ◌∷◌, ◌++◌}
 use Prim.Native.Nat.{ℕ, ◌+◌, ◌≤◌, ◌<◌}
 use native.Mathlib.Omega.{arith}
@@ -251,21 +251,15 @@ module _ (p : Places) (f : ℕ) (b : List ℕ) (c : Cursor) (l : Tail) where
   point_child x y i at ei ex ea ey = rw (further_is p f b c l, ← ei, ey, ea, ex)
 
   module _ (r : Pushed) where
-    pub way_joined : (g : Growth) → r ≡ Joined l → g ≡ point_here p b c l → g ≡ pointed p f b c r
-    way_joined g e h = rw e (h ∙ sym (pointed_joined p f b c l))
-
-    pub way_beside : (g : Growth) → r ≡ Beside l → g ≡ point_here p b c l → g ≡ pointed p f b c r
-    way_beside g e h = rw e (h ∙ sym (pointed_beside p f b c l))
+    pub way_here : (g : Growth) → (r ≡ Joined l) ⊎ (r ≡ Beside l) → g ≡ point_here p b c l → g ≡ pointed p f b c r
+    way_here g o h = ⊎_elim (λ e. rw e (h ∙ sym (pointed_joined p f b c l))) (λ e. rw e (h ∙ sym (pointed_beside p f b c l))) o
 
     pub way_further : (g : Growth) → r ≡ Further l → g ≡ point_further p f b c l → g ≡ pointed p f b c r
     way_further g e h = rw e (h ∙ sym (pointed_further p f b c l))
 
 module _ (l : Tail) (r : Pushed) (h : InTable (tail_of r)) where
-  pub joined_in_table : r ≡ Joined l → InTable l
-  joined_in_table e = rw e at h
-
-  pub beside_in_table : r ≡ Beside l → InTable l
-  beside_in_table e = rw e at h
+  pub here_in_table : (r ≡ Joined l) ⊎ (r ≡ Beside l) → InTable l
+  here_in_table o = ⊎_elim (λ e. rw e at h) (λ e. rw e at h) o
 
   pub further_in_table : r ≡ Further l → InTable l
   further_in_table e = rw e at h

@@ -2,7 +2,7 @@
 use mathlib.Core.Path.{◌≡◌, refl, sym, ap, ◌∙◌}
 use mathlib.Core.Logic.{inl, inr, ⊎_elim, ◌≢◌}
 use mathlib.Core.List.{List, [], ◌∷◌, append_assoc}
-use Prim.Native.Nat.{ℕ, suc, ◌+◌, ◌-◌, ◌/◌, ◌%◌, ◌≤◌, ◌<◌}
+use Prim.Native.Nat.{ℕ, suc, ◌+◌, ◌/◌, ◌%◌, ◌≤◌, ◌<◌}
 use native.Mathlib.Nat.{add_assoc, add-suc}
 use native.Mathlib.Omega.{arith}
 use lib.ListN.{length, take, drop, set}
@@ -14,13 +14,10 @@ use Rattle.field.proofs.NumberLaws.{u16_kept, u32_kept}
 use Rattle.field.proofs.BitLaws.{differ}
 use Rattle.tables.specs.declared.places.Places.{Places}
 use Rattle.tables.specs.Places.{Layout}
-use Rattle.tables.specs.Indexes.{table_place, table_at, minus, put_word, put_parent, put_link}
-use Rattle.tables.specs.Sector1.{first_free_of}
+use Rattle.tables.specs.Indexes.{table_place, table_at}
 use Rattle.tables.specs.Views.{view_of}
-use Rattle.tables.proofs.IndexLaws.{minus_is, length_table}
+use Rattle.tables.proofs.IndexLaws.{length_table}
 use Rattle.tables.proofs.FrameLaws.{table_kept}
-use Rattle.allocation.specs.NewTables.{take_table, put_child}
-use Rattle.allocation.specs.Ready.{Head}
 use Rattle.allocation.specs.Steps.{SameCounts, SameFiles}
 
 -- ---- a part of a list, after a write within it
@@ -95,12 +92,3 @@ module _ {b b' : List ℕ} {o n : ℕ} (p : Places) (k : Kept b b' o n) (past : 
     counts = counts_past;
     table = λ i lo hi. table_kept p i k (inr (omega arith));
   }
-
--- ---- the writes that make a child of the first free table
-
-pub child_put : (p : Places) (b x y z w : List ℕ) (r f last : ℕ) → Layout p (length b) → Head p b → r ≡ first_free_of b → x ≡ take_table p b
-    → y ≡ put_word p x r (4294967295 - (r - 1)) → z ≡ put_parent p y r f → w ≡ put_link p z last r → w ≡ put_child p b f last
-unfolding put_child
-child_put p b x y z w r f last lay head er ex ey ez ew =
-    let m : 4294967295 - (first_free_of b - 1) ≡ minus (first_free_of b) = minus_is (first_free_of b) head.low (omega (arith, head.high, lay.few)) in
-    rw (ew, ez, ey, ex, er, m)

@@ -2,7 +2,7 @@
 use mathlib.Core.Path.{◌≡◌, sym, ◌∙◌}
 use mathlib.Core.Bool.{Bool, true, false}
 use Prim.Native.Nat.{ℕ, ◌+◌, ◌≤◌, ◌<◌}
-use lib.Dec.{leb}
+use lib.Dec.{eqb, leb}
 use borrow.Author.Tests.{eq-eqb, ne_eqb, lt-ltb, le-ltb}
 use Rattle.allocation.specs.declared.tail.Tail.{Tail}
 use Rattle.allocation.specs.declared.tail.Pushed.TheVariants.{Joined, Beside, Further}
@@ -10,9 +10,9 @@ use Rattle.allocation.specs.NextPointer.{end_sector, joins, longer, beside, furt
 
 module _ (l : Tail) (s size : ℕ) where
   module _ (end : ℕ) (at : end ≡ end_sector l) where
-    pub joins_apart : (end ≡ s → ⊥) → false ≡ joins l s size
+    pub joins_apart : (end ≡ s → ⊥) → eqb end s ≡ joins l s size
     unfolding joins
-    joins_apart ne = rw (ne_eqb (end_sector l) s (λ e. ne (at ∙ e)))
+    joins_apart ne = rw (at, ne_eqb (end_sector l) s (λ e. ne (at ∙ e)))
 
     pub joins_next : end ≡ s → leb (l.last.count + size) 32767 ≡ joins l s size
     unfolding joins

@@ -33,12 +33,16 @@ unfoldable pub lowest_fitting : View → ℕ → ℕ
 unfolding fitting find
 lowest_fitting v n = find (fitting v n) (v.zones - 2) 2
 
--- a run, by its zone, its first sector's number in the zone, and the free sectors that the zone has without it
+-- a run, by its zone, its first sector's number in the zone, and the free sectors that the zone has without it: the lowest of zone z
+abbrev pub run_place : View → ℕ → ℕ → Found
+run_place v n z = record { zone = record { 0 = z }; number = lowest_run v n z; free = (v.zone z).free - n }
+
+-- of the lowest fitting zone, or else the first sectors of the lowest open one
 unfoldable pub header_place : View → ℕ → Found
 unfolding lowest_fitting lowest_run lowest_open
 header_place v n =
     let z = lowest_fitting v n in
-    let here : Found = record { zone = record { 0 = z }; number = lowest_run v n z; free = (v.zone z).free - n } in
+    let here = run_place v n z in
     let there : Found = record { zone = record { 0 = lowest_open v }; number = 0; free = 1024 - n } in
     cond (ltb z v.zones) here there
 

@@ -11,6 +11,7 @@ pub mod Scratch
 pub mod Candidates
 pub mod Stock
 pub mod Ready
+pub mod Ways
 pub mod Steps
 pub mod Held
 pub mod Lengthened

@@ -1,6 +1,7 @@
 -- New index tables: "Index tables come off the free chain's head, parent first." "New tables get the zeros."
 use Rattle.std.specs.Prelude.{List, ℕ, ◌+◌, ◌-◌}
 use Rattle.tables.specs.declared.places.Places.{Places}
+use Rattle.allocation.specs.declared.new_parent.NewParent.{NewParent}
 use Rattle.tables.specs.Sector1.{free_of, put_free, first_free_of, put_first_free, active_of, put_active, system_of, put_system, directory_of, put_directory, put_latest}
 use Rattle.tables.specs.Indexes.{table_at, link_of, minus, erased, put_word, put_parent, put_link, put_name, put_created, put_changed, put_length, put_attribute}
 
@@ -22,6 +23,10 @@ pub record New : Type 0 where
   pub date : List ℕ
   pub length : ℕ
   pub attribute : ℕ
+
+-- as the code hands it on
+abbrev pub new_of : NewParent → New
+new_of n = record { name = n.name.now; date = n.date.now; length = n.length; attribute = n.attribute }
 
 -- "id 0-3, name 4-27 padded with nulls": table i, all zeros, with the file's id and name
 unfoldable pub put_named : Places → List ℕ → ℕ → List ℕ → List ℕ

@@ -1,6 +1,6 @@
 -- How many tables a choice of blocks takes: 13 is known before a byte is altered. A plan is a growth of which only the zone and the sector
 -- table are written, and no index table.
-use Rattle.std.specs.Prelude.{Bool, true, false, List, ℕ}
+use Rattle.std.specs.Prelude.{List, ℕ}
 use Rattle.tables.specs.declared.places.Places.{Places}
 use Rattle.tables.specs.Blocks.{block_of}
 use Rattle.tables.specs.Views.{view_of}
@@ -8,7 +8,7 @@ use Rattle.allocation.specs.declared.choice.Found.{Found}
 use Rattle.allocation.specs.declared.tail.Tail.{Tail}
 use Rattle.allocation.specs.Choice.{choose, block_start, put_block, in_turn}
 use Rattle.allocation.specs.NextPointer.{push, tail_of}
-use Rattle.allocation.specs.Growth.{Growth, laid, add_block}
+use Rattle.allocation.specs.Growth.{Growth}
 
 -- block k of type t planned
 unfoldable pub planned : Places → ℕ → Found → Growth → Growth
@@ -31,13 +31,3 @@ plan_from b l = record { books = b; cursor = record { tail = l; table = record {
 unfoldable pub tables_for : Places → List ℕ → Tail → List ℕ → ℕ
 unfolding plan_block in_turn
 tables_for p b l ts = (in_turn (plan_block p) ts (plan_from b l)).cursor.tail.tables
-
--- ---- a block laid for file f, or only planned
-
-abbrev pub laid_or : Bool → Places → ℕ → ℕ → Found → Growth → Growth
-laid_or true p f t k g = laid p f t k g
-laid_or false p f t k g = planned p t k g
-
-abbrev pub step_or : Bool → Places → ℕ → ℕ → Growth → Growth
-step_or true p f = add_block p f
-step_or false p f = plan_block p

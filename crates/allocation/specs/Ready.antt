@@ -1,5 +1,5 @@
 -- What a file that gets blocks asks of the books, so that each step finds a block and, where it needs one, an index table.
-use Rattle.std.specs.Prelude.{◌≡◌, Bool, true, false, ◌≢◌, List, ℕ, ◌+◌, ◌≤◌, ◌<◌, length}
+use Rattle.std.specs.Prelude.{◌≡◌, ◌≢◌, List, ℕ, ◌+◌, ◌≤◌, ◌<◌, length}
 use Rattle.tables.specs.declared.places.Places.{Places}
 use Rattle.tables.specs.Blocks.{block_of}
 use Rattle.tables.specs.Indexes.{word_of, table_at}
@@ -16,7 +16,7 @@ use Rattle.allocation.specs.Choice.{block_start}
 use Rattle.allocation.specs.NextPointer.{push, place_of}
 use Rattle.allocation.specs.Growth.{Growth}
 use Rattle.allocation.specs.Plans.{tables_for}
-use Rattle.allocation.specs.Stock.{Stocked, Plannable}
+use Rattle.allocation.specs.Stock.{Stocked}
 use Rattle.allocation.specs.Candidates.{Proper}
 
 -- the free chain has a head, which can be taken
@@ -66,7 +66,7 @@ pub record Ready (p : Places) (f : ℕ) (g : Growth) (ts : List ℕ) : Type 0 wh
   pub enough : tables_for p g.books g.cursor.tail ts ≤ g.cursor.tail.tables + free_of g.books
   pub file : f < 4294967296
 
--- ---- a block laid, or only planned
+-- ---- a block only planned
 
 -- block k of type t can be taken, and the tail go on
 pub record Planning (p : Places) (t : ℕ) (k : Found) (g : Growth) : Type 0 where
@@ -74,11 +74,3 @@ pub record Planning (p : Places) (t : ℕ) (k : Found) (g : Growth) : Type 0 whe
   pub proper : Proper (view_of p g.books) t k
   pub count : g.cursor.tail.last.count ≤ 32767
   pub few : g.cursor.tail.tables < 1099511627776
-
-abbrev pub LayingOr : Bool → Places → ℕ → Found → Growth → Type 0
-LayingOr true p t k g = Laying p t k g
-LayingOr false p t k g = Planning p t k g
-
-abbrev pub ReadyOr : Bool → Places → ℕ → Growth → List ℕ → Type 0
-ReadyOr true p f g ts = Ready p f g ts
-ReadyOr false p f g ts = Plannable p g.books g.cursor.tail ts

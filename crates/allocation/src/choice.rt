@@ -1,16 +1,17 @@
 // The choice of blocks, one at a time, and a block taken.
-ghost use Rattle.std.specs.Prelude.{◌≡◌, true, ◌-◌, ◌≤◌, ◌<◌, length};
+ghost use Rattle.std.specs.Prelude.{◌≡◌, true, false, ◌-◌, ◌≤◌, ◌<◌, length, MatchOption};
 ghost use Rattle.tables.specs.Blocks.{DataType, per_zone};
 ghost use Rattle.tables.specs.Places.{Layout};
 ghost use Rattle.tables.specs.Rules.R3.{R3};
-ghost use Rattle.tables.specs.Views.{view_of};
-ghost use Rattle.allocation.specs.Find.{find};
+ghost use Rattle.tables.specs.Views.{books_view, view_of};
+ghost use Rattle.allocation.specs.Find.{find, ZoneFound};
 ghost use Rattle.allocation.specs.Choice.{begun, lowest_open, is_clear, open_block, next_block, of_type, has_neighbour, neighbour, block_start, put_block};
 ghost use Rattle.allocation.specs.Candidates.{Proper, Behind, Chooses};
 
 use crate::tail::{Tail, end_sector};
 use field::bits::get_bit;
 use tables::blocks::{block_sectors, zone_blocks};
+use tables::books::Books;
 use tables::kinds::{Sector, Zone, first_sector, zone_of};
 use tables::open::is_open;
 use tables::places::Places;
@@ -34,44 +35,32 @@ pub struct Choice {
     pub from: Found,
 }
 
-// The lowest zone from `from` on that has a free block of type t and isn't open, Z where there is none.
-fn begun_from(b: &[u8], p: Places, t: u32, from: Zone) -> Zone
-    requires layout { Layout p (length b.now) }
-    requires le_from { (2 ≤ from.0) × (from.0 ≤ p.zones) }
-    ensures { (result.0 ≡ find (begun (view_of p b.now) t) (p.zones - from.0) from.0) × (from.0 ≤ result.0) × (result.0 ≤ p.zones) }
+// The lowest zone from `from` on that has a free block of type t and isn't open.
+fn begun_from(b: &Books<'_>, t: u32, from: Zone) -> Option<Zone>
+    requires le_from { (2 ≤ from.0) × (from.0 ≤ b.now.places.zones) }
+    ensures { ZoneFound b.now.places.zones (find (begun (books_view b.now) t) (b.now.places.zones - from.0) from.0) result }
 {
-    let mut z = from.0;
-    while z < p.zones {
-        if spare_in(t, zone_entry(b, p, Zone(z))) > 0 {
-            return Zone(z);
-        }
-        z += 1;
-    }
-    Zone(z)
+    (from.0..b.places.zones)
+        .find(|z| spare_in(t, zone_entry(b, Zone(*z))) > 0)
+        .map(Zone)
 }
 
-// The lowest open zone, Z where there is none.
-pub fn lowest_open(b: &[u8], p: Places) -> Zone
-    requires { Layout p (length b.now) }
-    ensures { result.0 ≡ lowest_open (view_of p b.now) }
+// The lowest open zone.
+pub fn lowest_open(b: &Books<'_>) -> Option<Zone>
+    ensures { ZoneFound b.now.places.zones (lowest_open (books_view b.now)) result }
 {
-    let mut z: u32 = 2;
-    while z < p.zones {
-        if is_open(zone_entry(b, p, Zone(z))) {
-            return Zone(z);
-        }
-        z += 1;
-    }
-    Zone(z)
+    (2..b.places.zones)
+        .find(|z| is_open(zone_entry(b, Zone(*z))))
+        .map(Zone)
 }
 
-// The lowest free block from `from` on of zone z, of type t. Sectors in use are passed over together, and with them every block that begins
-// in them.
-fn clear_from(b: &[u8], p: Places, t: u32, z: Zone, from: u32) -> u32
-    requires layout { Layout p (length b.now) }
+// The lowest free block from `from` on of zone z, of type t; the number after the last where none is, which R3 excludes in a begun zone, so that
+// an Option would only add a case. Sectors in use are passed over together, and with them every block that begins in them: steps of many
+// lengths, and no range for a `for`.
+fn clear_from(b: &Books<'_>, t: u32, z: Zone, from: u32) -> u32
     requires data_type { DataType t }
-    requires le_z { (2 ≤ z.0) × (z.0 < p.zones) × (from ≤ per_zone t) }
-    ensures { result ≡ find (is_clear (view_of p b.now) t z.0) (per_zone t - from) from }
+    requires le_z { (2 ≤ z.0) × (z.0 < b.now.places.zones) × (from ≤ per_zone t) }
+    ensures { result ≡ find (is_clear (books_view b.now) t z.0) (per_zone t - from) from }
 {
     let first = first_sector(z).0;
     let size = block_sectors(t);
@@ -79,7 +68,7 @@ fn clear_from(b: &[u8], p: Places, t: u32, z: Zone, from: u32) -> u32
     let mut k = from;
     while k < last {
         let at = k * size;
-        let used = used_ahead(b, p, Sector(first + at), ZONE - at);
+        let used = used_ahead(b, Sector(first + at), ZONE - at);
         if used == 0 {
             return k;
         }
@@ -88,14 +77,13 @@ fn clear_from(b: &[u8], p: Places, t: u32, z: Zone, from: u32) -> u32
     k
 }
 
-// Block 0 of the lowest open zone.
-fn open_block(b: &[u8], p: Places, t: u32) -> Found
-    requires layout { Layout p (length b.now) }
+// Block 0 of the lowest open zone; in zone Z where there is none.
+fn open_block(b: &Books<'_>, t: u32) -> Found
     requires data_type { DataType t }
-    ensures { result ≡ open_block (view_of p b.now) t }
+    ensures { result ≡ open_block (books_view b.now) t }
 {
     Found {
-        zone: lowest_open(b, p),
+        zone: lowest_open(b).unwrap_or(Zone(b.places.zones)),
         number: 0,
         free: zone_blocks(t) - 1,
     }
@@ -105,27 +93,25 @@ fn open_block(b: &[u8], p: Places, t: u32) -> Found
 fn resume(z: Zone, last: Found) -> u32
     ensures { (result ≤ last.number) × ((z.0 ≡ last.zone.0) → result ≡ last.number) × ((z.0 ≡ last.zone.0 → ⊥) → result ≡ 0) }
 {
-    if z.0 == last.zone.0 {
+    if z == last.zone {
         return last.number;
     }
     0
 }
 
 // The next block of type t; none is looked for below the last one.
-fn next_block(b: &[u8], p: Places, t: u32, last: Found) -> Found
-    requires layout { Layout p (length b.now) }
+fn next_block(b: &Books<'_>, t: u32, last: Found) -> Found
     requires data_type { DataType t }
-    requires behind { Behind (view_of p b.now) t last }
-    ensures { result ≡ next_block (view_of p b.now) t }
+    requires behind { Behind (books_view b.now) t last }
+    ensures { result ≡ next_block (books_view b.now) t }
 {
-    let z = begun_from(b, p, t, last.zone);
-    if z.0 == p.zones {
-        return open_block(b, p, t);
-    }
+    let Some(z) = begun_from(b, t, last.zone) else {
+        return open_block(b, t);
+    };
     Found {
         zone: z,
-        number: clear_from(b, p, t, z, resume(z, last)),
-        free: zone_entry(b, p, z).free - 1,
+        number: clear_from(b, t, z, resume(z, last)),
+        free: zone_entry(b, z).free - 1,
     }
 }
 
@@ -139,59 +125,50 @@ fn of_type(e: ZoneEntry, t: u32) -> bool
     !is_open(e)
 }
 
-// Does the sector behind the last pointer's last start a free block, of a zone of type t that isn't open?
-fn has_neighbour(b: &[u8], p: Places, l: Tail, t: u32) -> bool
-    requires layout { Layout p (length b.now) }
+// The block that starts at the sector behind the last pointer's last, if it is free, of a zone of type t that isn't open.
+fn neighbour(b: &Books<'_>, l: Tail, t: u32) -> Option<Found>
     requires data_type { DataType t }
-    ensures { result ≡ has_neighbour (view_of p b.now) l t }
+    requires r3 { R3 (books_view b.now) }
+    ensures { MatchOption result (has_neighbour (books_view b.now) l t ≡ false) (λ k. (has_neighbour (books_view b.now) l t ≡ true) × (k ≡ neighbour (books_view b.now) l t)) }
 {
     let end = end_sector(l);
     if end < ZONE as u64 {
-        return false;
+        return None;
     }
-    if end >= ZONE as u64 * (p.zones as u64 - 1) {
-        return false;
+    if end >= ZONE as u64 * (b.places.zones as u64 - 1) {
+        return None;
     }
     let s = Sector(end as u32);
-    if !of_type(zone_entry(b, p, zone_of(s)), t) {
-        return false;
-    }
-    if s.0 % ZONE % block_sectors(t) != 0 {
-        return false;
-    }
-    get_bit(b, p.sectortable, s.0 as usize) == 0
-}
-
-// That block.
-fn neighbour_block(b: &[u8], p: Places, l: Tail, t: u32) -> Found
-    requires layout { Layout p (length b.now) }
-    requires data_type { DataType t }
-    requires r3 { R3 (view_of p b.now) }
-    requires t_value { has_neighbour (view_of p b.now) l t ≡ true }
-    ensures { result ≡ neighbour (view_of p b.now) l t }
-{
-    let s = Sector(end_sector(l) as u32);
     let zone = zone_of(s);
-    Found {
-        zone,
-        number: s.0 % ZONE / block_sectors(t),
-        free: zone_entry(b, p, zone).free - 1,
+    let e = zone_entry(b, zone);
+    if !of_type(e, t) {
+        return None;
     }
+    let size = block_sectors(t);
+    if s.0 % ZONE % size != 0 {
+        return None;
+    }
+    if get_bit(b.raw, b.places.sectortable, s.0 as usize) != 0 {
+        return None;
+    }
+    Some(Found {
+        zone,
+        number: s.0 % ZONE / size,
+        free: e.free - 1,
+    })
 }
 
 // The block of type t that is added after the tail l: the neighbour if there is one, else the next one, which is not looked for below `from`.
-pub fn choose_block(b: &[u8], p: Places, l: Tail, t: u32, from: Found) -> Choice
-    requires layout { Layout p (length b.now) }
+pub fn choose_block(b: &Books<'_>, l: Tail, t: u32, from: Found) -> Choice
     requires data_type { DataType t }
-    requires r3 { R3 (view_of p b.now) }
-    requires behind { Behind (view_of p b.now) t from }
-    ensures { Chooses (view_of p b.now) l t result }
+    requires r3 { R3 (books_view b.now) }
+    requires behind { Behind (books_view b.now) t from }
+    ensures { Chooses (books_view b.now) l t result }
 {
-    if has_neighbour(b, p, l, t) {
-        let block = neighbour_block(b, p, l, t);
+    if let Some(block) = neighbour(b, l, t) {
         return Choice { block, from };
     }
-    let k = next_block(b, p, t, from);
+    let k = next_block(b, t, from);
     Choice { block: k, from: k }
 }
 

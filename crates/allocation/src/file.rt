@@ -3,14 +3,17 @@ ghost use Rattle.std.specs.Prelude.{◌≡◌, ◌≤◌, ◌<◌, length};
 ghost use Rattle.tables.specs.Blocks.{DataType};
 ghost use Rattle.tables.specs.Sector1.{first_free_of};
 ghost use Rattle.tables.specs.Views.{view_of, Parent};
+ghost use Rattle.allocation.specs.NewTables.{new_of};
 ghost use Rattle.allocation.specs.NextPointer.{no_pointer};
 ghost use Rattle.allocation.specs.Last.{cursor_of};
 ghost use Rattle.allocation.specs.MadeFiles.{only_counts, ProvidedSome, started, created, grown};
 
-use crate::growth::{Cursor, add_all};
+use crate::growth::{Cursor, lay_all};
 use crate::last::cursor_of;
+use crate::new_parent::NewParent;
 use crate::table::{count_file, put_change, put_new_parent};
 use crate::tail::no_pointer;
+use tables::books::Books;
 use tables::index::{DIRECTORY, SYSTEM};
 use tables::kinds::Index;
 use tables::places::Places;
@@ -26,50 +29,33 @@ pub fn only_counts(t: u32, n: u32) -> [u32; 6]
 }
 
 // The file's parent, without pointers, and sector 1 with it.
-fn start_file(
-    b: &mut [u8],
-    p: Places,
-    name: &[u8],
-    date: &[u8],
-    long: u32,
-    attribute: u32,
-    counts: [u32; 6],
-) -> Index
+fn start_file(b: &mut [u8], p: Places, n: NewParent, counts: [u32; 6]) -> Index
     requires provided_some { ProvidedSome p b.old no_pointer counts }
-    requires name_len_bound { (length name.now ≤ 24) × (length date.now ≡ 6) × (attribute < 128) }
-    ensures { (result.0 ≡ first_free_of b.old) × (record { books = b.new; cursor = record { tail = no_pointer; table = result } } ≡ started p b.old (record { name = name.now; date = date.now; length = long; attribute = attribute })) }
+    requires name_len_bound { (length n.name.now ≤ 24) × (length n.date.now ≡ 6) × (n.attribute < 128) }
+    ensures { (result.0 ≡ first_free_of b.old) × (record { books = b.new; cursor = record { tail = no_pointer; table = result } } ≡ started p b.old (new_of n.entry)) }
 {
-    let f = put_new_parent(b, p, name, date, long, attribute);
-    count_file(b, attribute / SYSTEM % 2, attribute / DIRECTORY % 2, date);
+    let f = put_new_parent(b, p, n);
+    count_file(
+        b,
+        n.attribute / SYSTEM % 2,
+        n.attribute / DIRECTORY % 2,
+        n.date,
+    );
     f
 }
 
 // A new file with blocks of these counts.
-pub fn create_file(
-    b: &mut [u8],
-    p: Places,
-    name: &[u8],
-    date: &[u8],
-    long: u32,
-    attribute: u32,
-    counts: [u32; 6],
-) -> Index
+pub fn create_file(b: &mut [u8], p: Places, n: NewParent, counts: [u32; 6]) -> Index
     requires provided_some { ProvidedSome p b.old no_pointer counts }
-    requires name_len_bound { (length name.now ≤ 24) × (length date.now ≡ 6) × (attribute < 128) }
-    ensures { (result.0 ≡ first_free_of b.old) × (b.new ≡ created p b.old (record { name = name.now; date = date.now; length = long; attribute = attribute }) counts) }
+    requires name_len_bound { (length n.name.now ≤ 24) × (length n.date.now ≡ 6) × (n.attribute < 128) }
+    ensures { (result.0 ≡ first_free_of b.old) × (b.new ≡ created p b.old (new_of n.entry) counts) }
 {
-    let f = start_file(b, p, name, date, long, attribute, counts);
-    add_all(
-        b,
-        p,
-        f,
-        counts,
-        Cursor {
-            tail: no_pointer(),
-            table: f,
-        },
-        true,
-    );
+    let f = start_file(b, p, n, counts);
+    let from = Cursor {
+        tail: no_pointer(),
+        table: f,
+    };
+    lay_all(b, p, f, counts, from);
     f
 }
 
@@ -80,7 +66,7 @@ pub fn grow_file(b: &mut [u8], p: Places, f: Index, counts: [u32; 6], long: u32,
     requires date_len { length date.now ≡ 6 }
     ensures { b.new ≡ grown p b.old f.0 counts long date.now }
 {
-    let c = cursor_of(b, p, f);
-    add_all(b, p, f, counts, c, true);
+    let c = cursor_of(&Books { raw: b, places: p }, f);
+    lay_all(b, p, f, counts, c);
     put_change(b, p, f, long, date);
 }

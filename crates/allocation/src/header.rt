@@ -1,11 +1,13 @@
 // The place of a header: a run of free sectors in a B zone, and the run taken.
-ghost use Rattle.std.specs.Prelude.{◌≡◌, ◌+◌, ◌-◌, ◌≤◌, ◌<◌, length};
+ghost use Rattle.std.specs.Prelude.{◌≡◌, ◌+◌, ◌-◌, ◌≤◌, ◌<◌, length, true, false, MatchOption};
 ghost use Rattle.tables.specs.Places.{Layout};
-ghost use Rattle.tables.specs.Views.{view_of};
-ghost use Rattle.allocation.specs.Headers.{lowest_run, fitting, lowest_fitting, header_place, run_start, put_run};
+ghost use Rattle.tables.specs.Views.{books_view};
+ghost use Rattle.allocation.specs.Find.{NumberFound};
+ghost use Rattle.allocation.specs.Headers.{lowest_run, fitting, lowest_fitting, run_place, header_place, run_start, put_run};
 
 use crate::choice::{Found, lowest_open};
 use tables::blocks::HEADER_TYPE;
+use tables::books::Books;
 use tables::kinds::{Sector, Zone, first_sector};
 use tables::places::Places;
 use tables::room::spare_in;
@@ -13,19 +15,19 @@ use tables::sector::{put_sectors, used_ahead};
 use tables::sizes::ZONE;
 use tables::zone::{put_zone, zone_entry};
 
-// The lowest n free sectors of zone z that follow on each other, by the first one's number in the zone; 1025 - n where there are none.
-// The `free` sectors from `from` on are free; a run that takes in a sector in use isn't, so the search goes on after those in use.
-fn clear_run(b: &[u8], p: Places, z: Zone, n: u32) -> u32
-    requires layout { Layout p (length b.now) }
-    requires le_z { (2 ≤ z.0) × (z.0 < p.zones) × (1 ≤ n) × (n ≤ 1024) }
-    ensures { (result ≡ lowest_run (view_of p b.now) n z.0) × (result ≤ 1025 - n) }
+// The lowest n free sectors of zone z that follow on each other, by the first one's number in the zone.
+// The `free` sectors from `from` on are free; a run that takes in a sector in use isn't, so the search goes on after those in use: steps of
+// many lengths, and no range for a `for`.
+fn clear_run(b: &Books<'_>, z: Zone, n: u32) -> Option<u32>
+    requires le_z { (2 ≤ z.0) × (z.0 < b.now.places.zones) × (1 ≤ n) × (n ≤ 1024) }
+    ensures { NumberFound (1025 - n) (lowest_run (books_view b.now) n z.0) result }
 {
     let first = first_sector(z).0;
     let mut from: u32 = 0;
     let mut free: u32 = 0;
     while from + n <= ZONE {
         let at = from + free;
-        let used = used_ahead(b, p, Sector(first + at), ZONE - at);
+        let used = used_ahead(b, Sector(first + at), ZONE - at);
         if used > 0 {
             from = at + used;
             free = 0;
@@ -33,69 +35,56 @@ fn clear_run(b: &[u8], p: Places, z: Zone, n: u32) -> u32
         }
         free += 1;
         if free == n {
-            return from;
+            return Some(from);
         }
     }
-    ZONE + 1 - n
+    None
 }
 
-// Is zone z a B zone that isn't open, with n free sectors that follow on each other?
-fn fits_in(b: &[u8], p: Places, n: u32, z: Zone) -> bool
-    requires layout { Layout p (length b.now) }
-    requires le_z { (2 ≤ z.0) × (z.0 < p.zones) × (1 ≤ n) × (n ≤ 1024) }
-    ensures { result ≡ fitting (view_of p b.now) n z.0 }
+// The place in zone z, if that is a B zone that isn't open and has a run of n free sectors.
+fn place_in(b: &Books<'_>, n: u32, z: Zone) -> Option<Found>
+    requires le_z { (2 ≤ z.0) × (z.0 < b.now.places.zones) × (1 ≤ n) × (n ≤ 1024) }
+    ensures { MatchOption result (fitting (books_view b.now) n z.0 ≡ false) (λ k. (fitting (books_view b.now) n z.0 ≡ true) × (k ≡ run_place (books_view b.now) n z.0)) }
 {
-    if spare_in(HEADER_TYPE, zone_entry(b, p, z)) == 0 {
-        return false;
+    let e = zone_entry(b, z);
+    if spare_in(HEADER_TYPE, e) == 0 {
+        return None;
     }
-    clear_run(b, p, z, n) < ZONE + 1 - n
+    let number = clear_run(b, z, n)?;
+    Some(Found {
+        zone: z,
+        number,
+        free: e.free.saturating_sub(n),
+    })
 }
 
-// The lowest such zone, Z where there is none.
-fn fitting_zone(b: &[u8], p: Places, n: u32) -> Zone
-    requires layout { Layout p (length b.now) }
+// The place in the lowest such zone.
+fn begun_place(b: &Books<'_>, n: u32) -> Option<Found>
     requires le_n { (1 ≤ n) × (n ≤ 1024) }
-    ensures { result.0 ≡ lowest_fitting (view_of p b.now) n }
+    ensures { MatchOption result (lowest_fitting (books_view b.now) n ≡ b.now.places.zones) (λ k. (lowest_fitting (books_view b.now) n < b.now.places.zones) × (k ≡ run_place (books_view b.now) n (lowest_fitting (books_view b.now) n))) }
 {
-    let mut z: u32 = 2;
-    while z < p.zones {
-        if fits_in(b, p, n, Zone(z)) {
-            return Zone(z);
+    for z in 2..b.places.zones {
+        if let Some(k) = place_in(b, n, Zone(z)) {
+            return Some(k);
         }
-        z += 1;
     }
-    Zone(z)
+    None
 }
 
-// The free sectors without the n that are taken.
-fn without(free: u32, n: u32) -> u32
-    ensures { result ≡ free - n }
-{
-    if free < n {
-        return 0;
-    }
-    free - n
-}
-
-// The place of a header of n sectors; in zone Z where there is none.
-pub fn header_place(b: &[u8], p: Places, n: u32) -> Found
-    requires layout { Layout p (length b.now) }
+// The place of a header of n sectors.
+pub fn header_place(b: &Books<'_>, n: u32) -> Option<Found>
     requires le_n { (1 ≤ n) × (n ≤ 32) }
-    ensures { result ≡ header_place (view_of p b.now) n }
+    ensures { MatchOption result (b.now.places.zones ≤ (header_place (books_view b.now) n).zone.0) (λ k. (k ≡ header_place (books_view b.now) n) × (k.zone.0 < b.now.places.zones)) }
 {
-    let z = fitting_zone(b, p, n);
-    if z.0 < p.zones {
-        return Found {
-            zone: z,
-            number: clear_run(b, p, z, n),
-            free: without(zone_entry(b, p, z).free, n),
-        };
+    if let Some(k) = begun_place(b, n) {
+        return Some(k);
     }
-    Found {
-        zone: lowest_open(b, p),
+    let zone = lowest_open(b)?;
+    Some(Found {
+        zone,
         number: 0,
         free: ZONE - n,
-    }
+    })
 }
 
 // A run's first sector.

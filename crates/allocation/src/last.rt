@@ -1,34 +1,37 @@
 // Where a file's pointers end in the books.
-ghost use Rattle.std.specs.Prelude.{◌≡◌, ◌≤◌, length};
-ghost use Rattle.tables.specs.Places.{Layout};
-ghost use Rattle.tables.specs.Views.{view_of, Parent};
+ghost use Rattle.std.specs.Prelude.{◌≡◌, ◌+◌, ◌≤◌, eqb, length};
+ghost use Rattle.tables.specs.Views.{books_view, Parent};
 ghost use Rattle.tables.specs.Rules.R5.{R5};
 ghost use Rattle.allocation.specs.Last.{last_table, used_pointers, cursor_of};
 
 use crate::growth::Cursor;
 use crate::tail::Tail;
-use tables::index::{POINTER, base, link, pointer_at, pointer_place, slots, table};
+use tables::books::Books;
+use tables::index::{POINTER, Pointer, base, link, pointer_at, pointer_place, slots, table};
 use tables::kinds::Index;
-use tables::places::Places;
 
 // The last table of file f.
-pub fn last_table(b: &[u8], p: Places, f: Index) -> Index
-    requires layout { Layout p (length b.now) }
-    requires r5 { R5 (view_of p b.now) }
-    requires parent { Parent (view_of p b.now) f.0 }
-    ensures { (result.0 ≡ last_table (view_of p b.now) f.0) × (1 ≤ result.0) × (result.0 ≤ p.indexes) }
+pub fn last_table(b: &Books<'_>, f: Index) -> Index
+    requires r5 { R5 (books_view b.now) }
+    requires parent { Parent (books_view b.now) f.0 }
+    ensures { (result.0 ≡ last_table (books_view b.now) f.0) × (1 ≤ result.0) × (result.0 ≤ b.now.places.indexes) }
 {
-    let mut i = f.0;
-    let mut n = p.indexes;
-    while n > 0 {
-        let next = link(table(b, p, Index(i))).0;
-        if next == 0 {
-            return Index(i);
+    let mut i = f;
+    for _ in 0..b.places.indexes {
+        let next = link(table(b, i));
+        if next == Index(0) {
+            return i;
         }
         i = next;
-        n -= 1;
     }
-    Index(i)
+    i
+}
+
+// Does the pointer name no sector?
+fn unused(q: Pointer) -> bool
+    ensures { result ≡ eqb (q.start.0 + q.count) 0 }
+{
+    q.start.0 as u64 + q.count as u64 == 0
 }
 
 // How many pointers of table i are used.
@@ -38,26 +41,19 @@ fn used_pointers(i: Index, t: &[u8]) -> usize
 {
     let n = slots(i, t);
     let at = base(i, t);
-    let mut j: usize = 0;
-    while j < n {
-        let q = pointer_at(t, at + POINTER * j);
-        if q.start.0 as u64 + q.count as u64 == 0 {
-            return j;
-        }
-        j += 1;
-    }
-    j
+    (0..n)
+        .find(|j| unused(pointer_at(t, at + POINTER * *j)))
+        .unwrap_or(n)
 }
 
 // Where file f goes on.
-pub fn cursor_of(b: &[u8], p: Places, f: Index) -> Cursor
-    requires layout { Layout p (length b.now) }
-    requires r5 { R5 (view_of p b.now) }
-    requires parent { Parent (view_of p b.now) f.0 }
-    ensures { result ≡ cursor_of p b.now f.0 }
+pub fn cursor_of(b: &Books<'_>, f: Index) -> Cursor
+    requires r5 { R5 (books_view b.now) }
+    requires parent { Parent (books_view b.now) f.0 }
+    ensures { result ≡ cursor_of b.now.places b.now.raw.now f.0 }
 {
-    let i = last_table(b, p, f);
-    let t = table(b, p, i);
+    let i = last_table(b, f);
+    let t = table(b, i);
     let capacity = slots(i, t);
     let slot = used_pointers(i, t);
     Cursor {

@@ -6,6 +6,7 @@ pub mod file;
 pub mod growth;
 pub mod header;
 pub mod last;
+pub mod new_parent;
 pub mod plan;
 pub mod size;
 pub mod table;

@@ -6,9 +6,10 @@ ghost use Rattle.allocation.specs.Plans.{tables_for};
 ghost use Rattle.allocation.specs.Stock.{Plannable};
 ghost use Rattle.allocation.specs.Scratch.{scratch_places, scratch_of};
 
-use crate::growth::{Cursor, add_all};
+use crate::growth::{Cursor, plan_all};
 use crate::tail::Tail;
 use field::parts::copy;
+use tables::books::Books;
 use tables::kinds::Index;
 use tables::places::Places;
 use tables::sizes::{ENTRY_LEN, ZONE_BITS};
@@ -42,18 +43,18 @@ fn copy_tables(s: &mut [u8], b: &[u8], p: Places)
 }
 
 // The tables that blocks of these counts take after l.
-pub fn tables_for(b: &[u8], p: Places, l: Tail, counts: [u32; 6]) -> u64
-    requires { Plannable p b.now l (in_order counts) }
-    ensures { result ≡ tables_for p b.now l (in_order counts) }
+pub fn tables_for(b: &Books<'_>, l: Tail, counts: [u32; 6]) -> u64
+    requires { Plannable b.now.places b.now.raw.now l (in_order counts) }
+    ensures { result ≡ tables_for b.now.places b.now.raw.now l (in_order counts) }
 {
     let mut s = [0u8; 36480];
-    copy_tables(&mut s, b, p);
+    copy_tables(&mut s, b.raw, b.places);
     let none = Index(0);
     let from = Cursor {
         tail: l,
         table: none,
     };
-    add_all(&mut s, scratch_places(p.zones), none, counts, from, false)
+    plan_all(&mut s, scratch_places(b.places.zones), counts, from)
         .tail
         .tables
 }

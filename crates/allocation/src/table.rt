@@ -2,10 +2,12 @@
 ghost use Rattle.std.specs.Prelude.{◌≡◌, ◌+◌, ◌≤◌, ◌<◌, length};
 ghost use Rattle.tables.specs.Places.{Layout};
 ghost use Rattle.tables.specs.Sector1.{first_free_of, active_of, system_of, directory_of};
-ghost use Rattle.allocation.specs.NewTables.{take_table, put_child, put_named, put_dates, put_size, put_new_parent, count_file};
+ghost use Rattle.allocation.specs.NewTables.{new_of, take_table, put_child, put_named, put_dates, put_size, put_new_parent, count_file};
 ghost use Rattle.allocation.specs.Ready.{Head};
 ghost use Rattle.allocation.specs.MadeFiles.{put_change};
 
+use crate::new_parent::NewParent;
+use tables::books::Books;
 use tables::kinds::Index;
 use tables::places::Places;
 use tables::sizes::TABLE_LEN;
@@ -18,7 +20,7 @@ fn take_table(b: &mut [u8], p: Places) -> Index
     ensures { (result.0 ≡ first_free_of b.old) × (b.new ≡ take_table p b.old) }
 {
     let i = sector1::first_free(b);
-    let next = index::link(index::table(b, p, i));
+    let next = index::link(index::table(&Books { raw: b, places: p }, i));
     let left = sector1::free_indexes(b) - 1;
     sector1::put_first_free(b, next);
     sector1::put_free(b, left);
@@ -34,7 +36,7 @@ pub fn put_child(b: &mut [u8], p: Places, f: Index, last: Index) -> Index
     ensures { (result.0 ≡ first_free_of b.old) × (b.new ≡ put_child p b.old f.0 last.0) }
 {
     let i = take_table(b, p);
-    index::put_word(b, p, i, 4294967295 - (i.0 - 1));
+    index::put_word(b, p, i, index::minus(i));
     index::put_parent(b, p, i, f);
     index::put_link(b, p, last, i);
     i
@@ -68,23 +70,16 @@ fn put_size(b: &mut [u8], p: Places, i: Index, long: u32, attribute: u32)
 }
 
 // Makes the first free index table the parent of a file that has no pointers yet.
-pub fn put_new_parent(
-    b: &mut [u8],
-    p: Places,
-    name: &[u8],
-    date: &[u8],
-    long: u32,
-    attribute: u32,
-) -> Index
+pub fn put_new_parent(b: &mut [u8], p: Places, n: NewParent) -> Index
     requires layout { Layout p (length b.old) }
     requires head { Head p b.old }
-    requires name_len_bound { (length name.now ≤ 24) × (length date.now ≡ 6) × (attribute < 65536) }
-    ensures { (result.0 ≡ first_free_of b.old) × (b.new ≡ put_new_parent p b.old (record { name = name.now; date = date.now; length = long; attribute = attribute })) }
+    requires name_len_bound { (length n.name.now ≤ 24) × (length n.date.now ≡ 6) × (n.attribute < 65536) }
+    ensures { (result.0 ≡ first_free_of b.old) × (b.new ≡ put_new_parent p b.old (new_of n.entry)) }
 {
     let i = take_table(b, p);
-    put_named(b, p, i, name);
-    put_dates(b, p, i, date);
-    put_size(b, p, i, long, attribute);
+    put_named(b, p, i, n.name);
+    put_dates(b, p, i, n.date);
+    put_size(b, p, i, n.length, n.attribute);
     i
 }
 

@@ -14,7 +14,7 @@ pub struct Tail {
     pub tables: u64,
 }
 
-// The tail with a block more.
+// The tail with a block more, and how it got there, which says where the pointer is written.
 #[derive(Clone, Copy)]
 pub enum Pushed {
     // The last pointer is longer.
@@ -29,9 +29,7 @@ pub fn tail_of(r: Pushed) -> Tail
     ensures { result ≡ tail_of r }
 {
     match r {
-        Pushed::Joined(l) => l,
-        Pushed::Beside(l) => l,
-        Pushed::Further(l) => l,
+        Pushed::Joined(l) | Pushed::Beside(l) | Pushed::Further(l) => l,
     }
 }
 
@@ -46,10 +44,7 @@ fn joins_last(l: Tail, s: Sector, size: u32) -> bool
     requires { (l.last.count ≤ 32767) × (size ≤ 1024) }
     ensures { result ≡ joins l s.0 size }
 {
-    if end_sector(l) != s.0 as u64 {
-        return false;
-    }
-    l.last.count + size <= 32767
+    end_sector(l) == s.0 as u64 && l.last.count + size <= 32767
 }
 
 // The tail with a block of `size` sectors from s on after it.
@@ -58,29 +53,19 @@ pub fn push_block(l: Tail, s: Sector, size: u32) -> Pushed
     ensures { result ≡ push l s.0 size }
 {
     if joins_last(l, s, size) {
-        let present = l.last;
-        let start = present.start;
-        return Pushed::Joined(Tail {
-            last: Pointer {
-                start,
-                count: present.count + size,
-            },
-            slot: l.slot,
-            capacity: l.capacity,
-            tables: l.tables,
-        });
+        let last = Pointer {
+            count: l.last.count + size,
+            ..l.last
+        };
+        return Pushed::Joined(Tail { last, ..l });
     }
     let last = Pointer {
         start: s,
         count: size,
     };
     if l.slot < l.capacity {
-        return Pushed::Beside(Tail {
-            last,
-            slot: l.slot + 1,
-            capacity: l.capacity,
-            tables: l.tables,
-        });
+        let slot = l.slot + 1;
+        return Pushed::Beside(Tail { last, slot, ..l });
     }
     Pushed::Further(Tail {
         last,

@@ -1,46 +1,45 @@
 // Requests on a card of five sectors of books, passed by value: each step's books stay for comparison.
-use crate::line::{say, say_file, say_ids, say_number, say_state, word};
+use crate::line::{number_of, say, say_file, say_ids, say_number, say_state, word};
 use requests::actual_delete::actual_delete;
-use requests::amount::{Amount, amount_of};
-use requests::answer::Answer;
-use requests::create::Created;
+use requests::amount::amount_of;
 use requests::create_fixed::create_fixed;
 use requests::create_variable::create_variable;
 use requests::format::format;
 use requests::grow::grow;
 use requests::list::list;
-use requests::locate::{Located, locate};
+use requests::locate::locate;
 use requests::mount::mount;
 use requests::recover::recover;
 use requests::search::search;
 use requests::set_protection::set_protection;
-use requests::show::show_number;
-use requests::space::{Space, space_of};
+use requests::show::check_show;
+use requests::space::space_of;
 use requests::temporary_delete::temporary_delete;
 use std::io;
 use tables::counts::chosen_types;
+use tables::kinds::Index;
+use tables::label::Label;
+use tables::refusal::Refusal;
 
 // Formats the books for Z zones and N index tables.
 pub fn format_books(rt: &impl Print, b: &mut [u8], zones: u32, indexes: u32) -> io::Result<()> {
-    let n = format(
-        b,
-        Amount::Is(zones),
-        Amount::Is(indexes),
-        b"BENCH",
-        b"CARD",
-        1,
-        b"OWNER",
-        b"CODE",
-        b"\x07\xea\x01\x02\x03\x04",
-    );
+    let label = Label {
+        application: b"BENCH",
+        volume: b"CARD",
+        id: 1,
+        owner: b"OWNER",
+        code: b"CODE",
+        date: b"\x07\xea\x01\x02\x03\x04",
+    };
+    let answer = format(b, Some(zones), Some(indexes), &label);
     say_number(rt, b"format Z=", zones)?;
     say_number(rt, b" N=", indexes)?;
-    say_number(rt, b" number=", n)?;
+    say_number(rt, b" number=", number_of(answer))?;
     say(rt, b"\n")
 }
 
 pub fn mount_books(rt: &impl Print, b: &mut [u8]) -> io::Result<()> {
-    say_number(rt, b"mount number=", mount(b, &[0u32; 0]))?;
+    say_number(rt, b"mount number=", number_of(mount(b, &[0u32; 0])))?;
     say(rt, b"\n")
 }
 
@@ -56,20 +55,9 @@ pub fn mounted(rt: &impl Print, card: [u8; 5120]) -> io::Result<[u8; 5120]> {
     Ok(after)
 }
 
-// This paper's number of an answer.
-fn number_of(made: Created) -> u32 {
-    match made {
-        Created::Done(_id) => 0,
-        Created::Refused(n) => n,
-    }
-}
-
 // The new file's id, 0 beside a refusal.
-fn id_of(made: Created) -> u32 {
-    match made {
-        Created::Done(id) => id.0,
-        Created::Refused(_n) => 0,
-    }
+fn id_of(made: Result<Index, Refusal>) -> u32 {
+    made.unwrap_or(Index(0)).0
 }
 
 // Create fixed on `after`, which holds what `before` holds.
@@ -131,8 +119,24 @@ pub fn grow_to(
 ) -> io::Result<[u8; 5120]> {
     let mut after = card;
     let date = b"\x07\xea\x01\x02\x03\x06";
-    let number = grow(&mut after, &[0u32; 0], id, amount_of(long), date);
-    say_file(rt, step, number, id, &card, &after)?;
+    let answer = grow(&mut after, &[0u32; 0], id, amount_of(long), date);
+    say_file(rt, step, number_of(answer), id, &card, &after)?;
+    Ok(after)
+}
+
+// A request on a copy of the card, and what the books then say of the file.
+fn stepped<F: FnOnce(&mut [u8]) -> Result<(), Refusal>>(
+    rt: &impl Print,
+    step: &[u8],
+    card: [u8; 5120],
+    id: u32,
+    request: F,
+) -> io::Result<[u8; 5120]>
+    requires { F.IsAlwaysCallable request }
+{
+    let mut after = card;
+    let answer = request(&mut after);
+    say_state(rt, step, number_of(answer), id, &card, &after)?;
     Ok(after)
 }
 
@@ -143,16 +147,10 @@ pub fn remove(
     body: &mut [u8],
     id: u32,
 ) -> io::Result<[u8; 5120]> {
-    let mut after = card;
-    let number = temporary_delete(
-        &mut after,
-        &[0u32; 0],
-        body,
-        id,
-        b"\x07\xea\x01\x02\x03\x07",
-    );
-    say_state(rt, step, number, id, &card, &after)?;
-    Ok(after)
+    let date = b"\x07\xea\x01\x02\x03\x07";
+    stepped(rt, step, card, id, |b| {
+        temporary_delete(b, &[0u32; 0], body, id, date)
+    })
 }
 
 pub fn restore(
@@ -162,16 +160,10 @@ pub fn restore(
     body: &mut [u8],
     id: u32,
 ) -> io::Result<[u8; 5120]> {
-    let mut after = card;
-    let number = recover(
-        &mut after,
-        &[0u32; 0],
-        body,
-        id,
-        b"\x07\xea\x01\x02\x03\x08",
-    );
-    say_state(rt, step, number, id, &card, &after)?;
-    Ok(after)
+    let date = b"\x07\xea\x01\x02\x03\x08";
+    stepped(rt, step, card, id, |b| {
+        recover(b, &[0u32; 0], body, id, date)
+    })
 }
 
 pub fn delete(
@@ -181,16 +173,10 @@ pub fn delete(
     body: &mut [u8],
     id: u32,
 ) -> io::Result<[u8; 5120]> {
-    let mut after = card;
-    let number = actual_delete(
-        &mut after,
-        &[0u32; 0],
-        body,
-        id,
-        b"\x07\xea\x01\x02\x03\x09",
-    );
-    say_state(rt, step, number, id, &card, &after)?;
-    Ok(after)
+    let date = b"\x07\xea\x01\x02\x03\x09";
+    stepped(rt, step, card, id, |b| {
+        actual_delete(b, &[0u32; 0], body, id, date)
+    })
 }
 
 pub fn protect(
@@ -200,31 +186,10 @@ pub fn protect(
     id: u32,
     weights: u32,
 ) -> io::Result<[u8; 5120]> {
-    let mut after = card;
-    let number = set_protection(
-        &mut after,
-        &[0u32; 0],
-        id,
-        weights,
-        b"\x07\xea\x01\x02\x03\x0a",
-    );
-    say_state(rt, step, number, id, &card, &after)?;
-    Ok(after)
-}
-
-// This paper's number and value of an answer.
-fn answer_number(answer: Answer) -> u32 {
-    match answer {
-        Answer::Done(_value) => 0,
-        Answer::Refused(n) => n,
-    }
-}
-
-fn answer_value(answer: Answer) -> u32 {
-    match answer {
-        Answer::Done(value) => value,
-        Answer::Refused(_n) => 0,
-    }
+    let date = b"\x07\xea\x01\x02\x03\x0a";
+    stepped(rt, step, card, id, |b| {
+        set_protection(b, &[0u32; 0], id, weights, date)
+    })
 }
 
 // Search with a list of two.
@@ -233,13 +198,7 @@ pub fn find(rt: &impl Print, b: &[u8], pattern: &[u8]) -> io::Result<()> {
     let answer = search(b, &[0u32; 0], pattern, &mut ids);
     say(rt, b"search ")?;
     say(rt, pattern)?;
-    say_ids(
-        rt,
-        answer_number(answer),
-        answer_value(answer),
-        ids[0],
-        ids[1],
-    )
+    say_ids(rt, number_of(answer), answer.unwrap_or(0), ids[0], ids[1])
 }
 
 // List with room for two: each entry begins with the file's id.
@@ -249,8 +208,8 @@ pub fn list_from(rt: &impl Print, b: &[u8], from: u32) -> io::Result<()> {
     say_number(rt, b"list ", from)?;
     say_ids(
         rt,
-        answer_number(answer),
-        answer_value(answer),
+        number_of(answer),
+        answer.unwrap_or(0),
         word(&entries, 0),
         word(&entries, 64),
     )
@@ -259,10 +218,9 @@ pub fn list_from(rt: &impl Print, b: &[u8], from: u32) -> io::Result<()> {
 pub fn locate_place(rt: &impl Print, b: &[u8], id: u32, k: u32) -> io::Result<()> {
     say_number(rt, b"locate ", id)?;
     say_number(rt, b" ", k)?;
-    let found = locate(b, &[0u32; 0], id, k);
-    match found {
-        Located::At(s) => say_number(rt, b" sector=", s.0)?,
-        Located::Refused(n) => say_number(rt, b" number=", n)?,
+    match locate(b, &[0u32; 0], id, k) {
+        Ok(s) => say_number(rt, b" sector=", s.0)?,
+        Err(why) => say_number(rt, b" number=", why.number())?,
     }
     say(rt, b"\n")
 }
@@ -272,20 +230,19 @@ pub fn show_nothing(rt: &impl Print, b: &[u8], id: u32) -> io::Result<()> {
     say_number(
         rt,
         b"show without a body number=",
-        show_number(b, &[0u32; 0], b"", id, 0),
+        number_of(check_show(b, &[0u32; 0], b"", id, 0)),
     )?;
     say(rt, b"\n")
 }
 
 // Space: refused if the books break a rule.
 pub fn space(rt: &impl Print, b: &[u8]) -> io::Result<()> {
-    let s = space_of(b, &[0u32; 0]);
-    match s {
-        Space::Is(sectors, used) => {
-            say_number(rt, b"space sectors=", sectors)?;
-            say_number(rt, b" used=", used)?;
+    match space_of(b, &[0u32; 0]) {
+        Ok(space) => {
+            say_number(rt, b"space sectors=", space.sectors)?;
+            say_number(rt, b" used=", space.used)?;
         }
-        Space::Refused(n) => say_number(rt, b"space number=", n)?,
+        Err(why) => say_number(rt, b"space number=", why.number())?,
     }
     say(rt, b"\n")
 }

@@ -1,10 +1,8 @@
 // Requests that move a curve's bytes between a buffer and the body, a line for each.
-use crate::line::{say, say_number, say_pair};
+use crate::line::{number_of, say, say_number, say_pair};
 use field::numbers::wide;
 use requests::actual_delete::actual_delete;
 use requests::amount::amount_of;
-use requests::answer::Answer;
-use requests::create::Created;
 use requests::create_fixed::create_fixed;
 use requests::read::read;
 use requests::recover::recover;
@@ -13,12 +11,13 @@ use requests::temporary_delete::temporary_delete;
 use requests::write::write;
 use std::io;
 use tables::counts::chosen_types;
+use tables::refusal::Refusal;
 
 // The number and how many bytes were moved.
-fn say_moved(rt: &impl Print, answer: Answer) -> io::Result<()> {
+fn say_moved(rt: &impl Print, answer: Result<u32, Refusal>) -> io::Result<()> {
     match answer {
-        Answer::Done(n) => say_number(rt, b" number=0 moved=", n),
-        Answer::Refused(n) => say_number(rt, b" moved=0 number=", n),
+        Ok(n) => say_number(rt, b" number=0 moved=", n),
+        Err(why) => say_number(rt, b" moved=0 number=", why.number()),
     }
 }
 
@@ -36,8 +35,8 @@ pub fn make(rt: &impl Print, step: &[u8], books: &mut [u8], name: &[u8]) -> io::
     );
     say(rt, step)?;
     match made {
-        Created::Done(id) => say_number(rt, b" number=0 id=", id.0)?,
-        Created::Refused(n) => say_number(rt, b" number=", n)?,
+        Ok(id) => say_number(rt, b" number=0 id=", id.0)?,
+        Err(why) => say_number(rt, b" number=", why.number())?,
     }
     say(rt, b"\n")
 }
@@ -99,8 +98,8 @@ pub fn show_at(rt: &impl Print, books: &[u8], body: &[u8], k: u32) -> io::Result
 
 pub fn mark(rt: &impl Print, books: &mut [u8], body: &mut [u8], id: u32) -> io::Result<()> {
     let date = b"\x07\xea\x01\x02\x03\x0c";
-    let number = temporary_delete(books, &[0u32; 0], body, id, date);
-    say_number(rt, b"temporary delete number=", number)?;
+    let answer = temporary_delete(books, &[0u32; 0], body, id, date);
+    say_number(rt, b"temporary delete number=", number_of(answer))?;
     say(rt, b"\n")
 }
 
@@ -109,14 +108,14 @@ pub fn take_back(rt: &impl Print, books: &mut [u8], body: &mut [u8], id: u32) ->
     say_number(
         rt,
         b"recover number=",
-        recover(books, &[0u32; 0], body, id, date),
+        number_of(recover(books, &[0u32; 0], body, id, date)),
     )?;
     say(rt, b"\n")
 }
 
 pub fn give_back(rt: &impl Print, books: &mut [u8], body: &mut [u8], id: u32) -> io::Result<()> {
     let date = b"\x07\xea\x01\x02\x03\x0e";
-    let number = actual_delete(books, &[0u32; 0], body, id, date);
-    say_number(rt, b"actual delete number=", number)?;
+    let answer = actual_delete(books, &[0u32; 0], body, id, date);
+    say_number(rt, b"actual delete number=", number_of(answer))?;
     say(rt, b"\n")
 }

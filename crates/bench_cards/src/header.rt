@@ -2,11 +2,11 @@
 // their headers is open again.
 use crate::card::{create_on, formatted, mounted, space};
 use crate::curve::{give_back, make, mark, read_at, take_back, write_at};
-use crate::line::{half, say, say_header, say_number, say_pair, say_zones, word};
+use crate::line::{half, number_of, say, say_header, say_number, say_pair, say_zones, word};
 use field::parts::{bytes_all, same};
 use requests::place_header::place_header;
 use requests::set_protection::set_protection;
-use requests::show_header::{header_number, show_header};
+use requests::show_header::{check_header, show_header};
 use std::io;
 use std::num::wrapping_add_u8;
 
@@ -35,11 +35,11 @@ fn place(
     content: &[u8],
 ) -> io::Result<()> {
     let date = b"\x07\xea\x01\x02\x03\x0f";
-    let number = place_header(books, &[0u32; 0], body, id, content, date);
+    let answer = place_header(books, &[0u32; 0], body, id, content, date);
     say_number(rt, b"place header id=", id)?;
     say(rt, b" long=")?;
     print!(rt; "{}", content.len())?;
-    say_number(rt, b" number=", number)?;
+    say_number(rt, b" number=", number_of(answer))?;
     say_header(rt, books, id)?;
     say_zones(rt, books)?;
     say(rt, b"\n")
@@ -73,7 +73,8 @@ fn say_content(rt: &impl Print, part: &[u8], content: &[u8]) -> io::Result<()> {
 fn show(rt: &impl Print, books: &[u8], body: &[u8], id: u32, content: &[u8]) -> io::Result<()> {
     let part = show_header(books, &[0u32; 0], body, id);
     say_number(rt, b"show header id=", id)?;
-    say_number(rt, b" number=", header_number(books, &[0u32; 0], body, id))?;
+    let answer = check_header(books, &[0u32; 0], body, id);
+    say_number(rt, b" number=", number_of(answer))?;
     say(rt, b" len=")?;
     print!(rt; "{}", part.len())?;
     if part.len() > 0 {
@@ -106,9 +107,9 @@ fn used(rt: &impl Print, books: &[u8]) -> io::Result<()> {
 
 fn protect(rt: &impl Print, books: &mut [u8], id: u32, weights: u32) -> io::Result<()> {
     let date = b"\x07\xea\x01\x02\x03\x0a";
-    let number = set_protection(books, &[0u32; 0], id, weights, date);
+    let answer = set_protection(books, &[0u32; 0], id, weights, date);
     say_number(rt, b"protect ", weights)?;
-    say_number(rt, b" number=", number)?;
+    say_number(rt, b" number=", number_of(answer))?;
     say(rt, b"\n")
 }
 

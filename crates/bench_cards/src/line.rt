@@ -3,6 +3,15 @@
 use field::numbers::{get_u16, get_u32};
 use field::parts::same;
 use std::io;
+use tables::refusal::Refusal;
+
+// This paper's number of an answer.
+pub fn number_of<T: Copy>(answer: Result<T, Refusal>) -> u32 {
+    match answer {
+        Ok(_) => 0,
+        Err(why) => why.number(),
+    }
+}
 
 pub fn say(rt: &impl Print, text: &[u8]) -> io::Result<()> {
     rt.write_all(text)
@@ -57,10 +66,8 @@ fn say_pointer(rt: &impl Print, table: &[u8], at: usize) -> io::Result<()> {
 // The pointers of an index table: a parent's from byte 64 on, a child's from byte 22 on.
 fn say_pointers(rt: &impl Print, table: &[u8], from: usize) -> io::Result<()> {
     say(rt, b" pointers=")?;
-    let mut at = from;
-    while at <= 118 {
+    for at in (from..119).step_by(6) {
         say_pointer(rt, table, at)?;
-        at += 6;
     }
     Ok(())
 }

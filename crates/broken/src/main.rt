@@ -2,32 +2,14 @@
 // Books of more than 65,536 bytes are refused as 1: one byte more is read, which no number of whole sectors has.
 #![tactic(auto)]
 
-ghost use Rattle.std.specs.Prelude.{◌≤◌, length, IfOk};
-
 use requests::broken_text::broken_text;
 use std::io;
 use std::io::Read;
 
-// Reads until the buffer is full or the input ends, and says how many bytes there are.
-fn read_full(input: &mut impl Read, buffer: &mut [u8]) -> io::Result<usize>
-    ensures { IfOk result (λ n. n ≤ length buffer.new) }
-{
-    let mut done = 0;
-    while done < buffer.len() {
-        let n = input.read(&mut buffer[done..])?;
-        if n == 0 {
-            break;
-        }
-        done += n;
-    }
-    Ok(done)
-}
-
 fn main(rt: HostRuntime) -> io::Result<()> {
     let mut books = [0u8; 65537];
-    let n = read_full(&mut rt.stdin(), &mut books)?;
-    let t = broken_text(&books[..n], &[0u32; 0]);
-    let length = t.length;
-    let bytes = t.bytes;
-    rt.write_all(&bytes[..length])
+    // No more comes than there is room for, which `copy` does not promise: hence `min`.
+    let n = io::copy(&mut rt.stdin().take(65537), &mut &mut books[..])?;
+    let t = broken_text(&books[..books.len().min(n as usize)], &[0u32; 0]);
+    rt.write_all(t.as_bytes())
 }

@@ -1,48 +1,38 @@
 -- Which rule is broken: what is named fails there, nothing lower fails, and nothing is named exactly when all rules hold.
-use mathlib.Core.Path.{◌≡◌, refl, sym, ap, ◌∙◌}
+use Rattle.std.specs.Prelude.{Option, Some, None}
+use mathlib.Core.Path.{◌≡◌, refl, ap}
 use mathlib.Core.Logic.{inl, inr, ◌≢◌}
-use mathlib.Core.Bool.{Bool, true, false}
 use mathlib.Core.List.{List, [], ◌++◌}
 use Prim.Native.Nat.{ℕ, ◌<◌}
 use native.Mathlib.Decide.{ℕ_discrete}
 use native.Mathlib.Omega.{arith}
-use Rattle.field.specs.Says.{Says}
 use Rattle.tables.specs.declared.places.Places.{Places}
-use Rattle.tables.specs.Views.{View, view_of}
+use Rattle.tables.specs.Views.{view_of}
 use Rattle.tables.specs.Rules.R6.{R6}
-use Rattle.tables.specs.Rules.R9.{R9}
 use Rattle.tables.specs.Lawful.{Lawful}
 use Rattle.examination.specs.declared.fault.Fault.{Fault}
-use Rattle.examination.specs.declared.fault.Fault.TheVariants.{Nothing, AtZone, AtSector, AtIndex, AtCount}
+use Rattle.examination.specs.declared.fault.Fault.TheVariants.{AtZone, AtSector, AtIndex, AtCount}
 use Rattle.examination.specs.Examined.{PlacedAt}
-use Rattle.examination.specs.Rulings.{FreeChained, count_kind, speaks, zone_rulings, index_rulings, file_rulings, rulings, Broken, Lower}
-use Rattle.examination.specs.Faults.{rule_of, place_kind_of, fault_place, NamesFault, is_fault, count_fault}
+use Rattle.examination.specs.Rulings.{zone_rulings, index_rulings, file_rulings, rulings, Broken, Lower}
+use Rattle.examination.specs.Faults.{rule_of, place_kind_of, fault_place, NamesFault}
 use Rattle.examination.proofs.TailLaws.{tails_each, each_tails}
 use Rattle.examination.proofs.ChainedLaws.{R5_each, each_R5}
 use Rattle.examination.proofs.SectorLaws.{R7_each, each_R7}
-use Rattle.examination.proofs.RulingLaws.{Verdict, count_verdict, Kinded, HoldAll, Ascending, fault_stop, fault_next, no_fault_hold, named_fails, nothing_lower, names_hold, hold_nowhere, hold_none}
+use Rattle.examination.proofs.RulingLaws.{Kinded, HoldAll, Ascending, fault_stop, fault_next, no_fault_hold, named_fails, nothing_lower, names_hold, hold_nowhere, hold_none}
 
-fault_some : (f : Fault) → f ≢ Nothing → 0 < place_kind_of f
-fault_some Nothing ne = absurd (ne refl)
-fault_some (AtZone r z) ne = omega arith
-fault_some (AtSector r s) ne = omega arith
-fault_some (AtIndex r i) ne = omega arith
-fault_some (AtCount r) ne = omega arith
+fault_some : (f : Option Fault) → f ≢ None → 0 < place_kind_of f
+fault_some None ne = absurd (ne refl)
+fault_some (Some (AtZone r z)) ne = omega arith
+fault_some (Some (AtSector r s)) ne = omega arith
+fault_some (Some (AtIndex r i)) ne = omega arith
+fault_some (Some (AtCount r)) ne = omega arith
 
-kind_none : (f : Fault) → place_kind_of f ≡ 0 → f ≡ Nothing
-kind_none Nothing e = refl
-kind_none (AtZone r z) e = absurd (omega arith)
-kind_none (AtSector r s) e = absurd (omega arith)
-kind_none (AtIndex r i) e = absurd (omega arith)
-kind_none (AtCount r) e = absurd (omega arith)
-
--- the two rulings that name no place
-module _ (v : View) (g : Fault) (r : Bool) where
-  pub chain_verdict : Says r (FreeChained v) → g ≡ count_fault 4 r → Verdict (speaks 4 count_kind (λ k. FreeChained v) 0 1) g
-  chain_verdict s e = count_verdict 4 (FreeChained v) g r s e
-
-  pub counts_verdict : Says r (R9 v) → g ≡ count_fault 9 r → Verdict (speaks 9 count_kind (λ k. R9 v) 0 1) g
-  counts_verdict s e = count_verdict 9 (R9 v) g r s e
+kind_none : (f : Option Fault) → place_kind_of f ≡ 0 → f ≡ None
+kind_none None e = refl
+kind_none (Some (AtZone r z)) e = absurd (omega arith)
+kind_none (Some (AtSector r s)) e = absurd (omega arith)
+kind_none (Some (AtIndex r i)) e = absurd (omega arith)
+kind_none (Some (AtCount r)) e = absurd (omega arith)
 
 module _ (p : Places) (b withheld : List ℕ) where
   -- ---- the rules are in order
@@ -63,33 +53,33 @@ module _ (p : Places) (b withheld : List ℕ) where
 
   -- ---- one part of the rules after another
 
-  module _ (f : Fault) (r : Bool) (h : NamesFault (zone_rulings p b) f) (q : r ≡ is_fault f) where
-    pub zones_named : r ≡ true → NamesFault (rulings p b withheld) f
-    zones_named e = fault_stop (zone_rulings p b) (index_rulings p b ++ file_rulings p b withheld) f h (sym q ∙ e)
+  module _ (f : Option Fault) (h : NamesFault (zone_rulings p b) f) where
+    pub zones_named : (x : Fault) → f ≡ Some x → NamesFault (rulings p b withheld) (Some x)
+    zones_named = fault_stop (zone_rulings p b) (index_rulings p b ++ file_rulings p b withheld) f h
 
-    module _ (e : r ≡ false) (g : Fault) (s : Bool) (k : NamesFault (index_rulings p b) g) (t : s ≡ is_fault g) where
+    module _ (e : f ≡ None) (g : Option Fault) (k : NamesFault (index_rulings p b) g) where
       -- R6 holds, so R7 and R8 may be asked
-      pub index_r6 : s ≡ false → R6 (view_of p b)
-      index_r6 n = (no_fault_hold (index_rulings p b) [] g k index_kinds (sym t ∙ n)).1.1.1.0
+      pub index_r6 : g ≡ None → R6 (view_of p b)
+      index_r6 n = (no_fault_hold (index_rulings p b) [] g k index_kinds n).1.1.1.0
 
-      zones_passed : (x : Fault) → NamesFault (index_rulings p b ++ file_rulings p b withheld) x → NamesFault (rulings p b withheld) x
-      zones_passed x = fault_next (zone_rulings p b) (index_rulings p b ++ file_rulings p b withheld) f h zone_kinds (sym q ∙ e) x
+      zones_passed : (x : Option Fault) → NamesFault (index_rulings p b ++ file_rulings p b withheld) x → NamesFault (rulings p b withheld) x
+      zones_passed = fault_next (zone_rulings p b) (index_rulings p b ++ file_rulings p b withheld) f h zone_kinds e
 
-      pub indexes_named : s ≡ true → NamesFault (rulings p b withheld) g
-      indexes_named n = zones_passed g (fault_stop (index_rulings p b) (file_rulings p b withheld) g k (sym t ∙ n))
+      pub indexes_named : (x : Fault) → g ≡ Some x → NamesFault (rulings p b withheld) (Some x)
+      indexes_named x n = zones_passed (Some x) (fault_stop (index_rulings p b) (file_rulings p b withheld) g k x n)
 
-      pub files_named : (x : Fault) → s ≡ false → NamesFault (file_rulings p b withheld) x → NamesFault (rulings p b withheld) x
-      files_named x n m = zones_passed x (fault_next (index_rulings p b) (file_rulings p b withheld) g k index_kinds (sym t ∙ n) x m)
+      pub files_named : (x : Option Fault) → g ≡ None → NamesFault (file_rulings p b withheld) x → NamesFault (rulings p b withheld) x
+      files_named x n m = zones_passed x (fault_next (index_rulings p b) (file_rulings p b withheld) g k index_kinds n x m)
 
   -- ---- what is named
 
-  module _ (f : Fault) (h : NamesFault (rulings p b withheld) f) where
+  module _ (f : Option Fault) (h : NamesFault (rulings p b withheld) f) where
     -- "it fails there"
-    pub broken_there : f ≢ Nothing → Broken p b withheld (rule_of f) (place_kind_of f) (fault_place f)
+    pub broken_there : f ≢ None → Broken p b withheld (rule_of f) (place_kind_of f) (fault_place f)
     broken_there ne = named_fails (rulings p b withheld) (rule_of f) (place_kind_of f) (fault_place f) h (fault_some f ne)
 
     -- "nothing lower fails"
-    pub broken_lowest : f ≢ Nothing → (rule kind place : ℕ) → Broken p b withheld rule kind place → Lower rule kind place (rule_of f) (place_kind_of f) (fault_place f) → ⊥
+    pub broken_lowest : f ≢ None → (rule kind place : ℕ) → Broken p b withheld rule kind place → Lower rule kind place (rule_of f) (place_kind_of f) (fault_place f) → ⊥
     broken_lowest ne rule kind place = nothing_lower (rulings p b withheld) ascending (rule_of f) (place_kind_of f) (fault_place f) h (fault_some f ne) rule kind place
 
   -- ---- the rules hold exactly when none fails
@@ -116,12 +106,12 @@ module _ (p : Places) (b withheld : List ℕ) where
           r9 = f.1.1.0 0 (omega arith) (omega arith);
         }
 
-    module _ (f : Fault) (h : NamesFault (rulings p b withheld) f) where
+    module _ (f : Option Fault) (h : NamesFault (rulings p b withheld) f) where
       -- "nothing is found exactly when" all rules hold
-      pub nothing_lawful : f ≡ Nothing → Lawful p b withheld
+      pub nothing_lawful : f ≡ None → Lawful p b withheld
       nothing_lawful e = hold_lawful (names_hold (rulings p b withheld) kinds (rule_of f) (place_kind_of f) (fault_place f) h (ap place_kind_of e))
 
-      pub lawful_nothing : Lawful p b withheld → f ≡ Nothing
+      pub lawful_nothing : Lawful p b withheld → f ≡ None
       lawful_nothing l = kind_none f (hold_none (rulings p b withheld) (lawful_hold l) (rule_of f) (place_kind_of f) (fault_place f) h)
 
       -- books of which no rule fails at any place are lawful, and the other way round

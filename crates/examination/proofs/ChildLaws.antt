@@ -2,90 +2,42 @@
 use mathlib.Core.Path.{◌≡◌, refl, sym, ap, ◌∙◌}
 use mathlib.Core.Logic.{◌⊎◌, inl, inr, ⊎_elim}
 use mathlib.Core.Bool.{Bool, true, false, not}
-use Prim.Native.Nat.{ℕ, zero, suc, ◌+◌, ◌-◌, ◌*◌, ◌≤◌, ◌<◌}
+use Prim.Native.Nat.{ℕ, zero, suc, ◌+◌, ◌-◌, ◌≤◌, ◌<◌}
 use native.Mathlib.Nat.{not-suc-le-zero}
 use native.Mathlib.Decide.{ℕ_discrete, dec_lt, dec_le}
 use native.Mathlib.Omega.{arith}
-use borrow.Author.Count.{below_more}
 use mathlib.Core.List.{List}
 use lib.ListN.{get_or, set, length, length-set, replicate, length-replicate}
 use Rattle.field.specs.Says.{Says}
-use Rattle.field.proofs.Tests.{says_map, says_true, says_false, passed, refused}
+use Rattle.field.proofs.Tests.{says_map, passed}
 use Rattle.field.proofs.NumberLaws.{get_d_zeros}
 use borrow.Author.Tests.{not-true, not-false}
-use Rattle.tables.specs.declared.index.Pointer.{Pointer}
 use Rattle.tables.specs.declared.entry.Entry.{Entry}
 use Rattle.tables.specs.Entries.{entry_of, is_parent, is_child}
-use Rattle.tables.specs.Indexes.{word_of, parent_of, link_of, slots_of, base_of, pointer_at, UsedAt, Used}
+use Rattle.tables.specs.Indexes.{word_of, parent_of, link_of}
 use Rattle.tables.specs.Each.{Each}
 use Rattle.tables.specs.Views.{View, Parent, Child, walk, next}
-use Rattle.examination.specs.Met.{MarkedAt, SomeUsed, ChildMet, Follows, InChain, Passed, Before, Starts, Passes}
+use Rattle.examination.specs.Met.{MarkedAt, SomeUsed, ChildMet, Follows, InChain, Passed, Before, Starts}
 use Rattle.tables.specs.Rules.R5.{Full, FileChain, Stands, R5}
 use Rattle.tables.proofs.KindLaws.{parent_word, not_parent, child_word, not_child}
 use Rattle.tables.proofs.ChainLaws.{walk_once, walk_none, chain_one}
-use Rattle.examination.proofs.SlotLaws.{read_zero, read_used}
 use Rattle.examination.proofs.MetLaws.{up, marked_here, marked_still, marked_before}
-
--- ---- the pointers of one table
-
-module _ (i : ℕ) (t : List ℕ) (slots base : ℕ) (es : slots ≡ slots_of i t) (eb : base ≡ base_of i t) where
-  -- the j-th decides
-  module _ (j : ℕ) (q : Pointer) (u : Bool) (l : j < slots) (eq : q ≡ pointer_at t (base + 6 * j)) (s : Says u (q.start.0 + q.count ≡ 0)) where
-    pub full_stop : (v : View) → t ≡ v.table i → u ≡ true → Full v i → ⊥
-    full_stop v et e all = read_zero t (base + 6 * j) q eq (says_true u s e) (rw eb ((rw (← et) at all) j (rw es at l)))
-
-    pub some_stop : not u ≡ true → SomeUsed i t
-    some_stop e = (j, rw es at l, rw eb at (read_used t (base + 6 * j) q eq (refused u s e)))
-
-  -- so far every one is used
-  pub full_end : (v : View) (j : ℕ) → t ≡ v.table i → slots ≤ j → ((k : ℕ) → k < j → UsedAt t (base + 6 * k)) → Full v i
-  full_end v j et h all = let full : (k : ℕ) → k < slots_of i t → Used i t k = λ k l. rw eb at (all k (omega arith)) in rw et at full
-
-  -- so far none is
-  pub some_end : (j : ℕ) → slots ≤ j → ((k : ℕ) → k < j → UsedAt t (base + 6 * k) → ⊥) → SomeUsed i t → ⊥
-  some_end j h none (k, l, u) = none k (omega arith) (rw eb u)
-
-module _ (t : List ℕ) (base j : ℕ) (q : Pointer) (u : Bool) (eq : q ≡ pointer_at t (base + 6 * j)) (s : Says u (q.start.0 + q.count ≡ 0)) where
-  pub full_more : ((k : ℕ) → k < j → UsedAt t (base + 6 * k)) → u ≡ false → (k : ℕ) → k < j + 1 → UsedAt t (base + 6 * k)
-  full_more all e = below_more _ _ all (read_used t (base + 6 * j) q eq (says_false u s e))
-
-  pub some_more : ((k : ℕ) → k < j → UsedAt t (base + 6 * k) → ⊥) → not u ≡ false → (k : ℕ) → k < j + 1 → UsedAt t (base + 6 * k) → ⊥
-  some_more none e = below_more _ _ none (read_zero t (base + 6 * j) q eq (passed u s e))
 
 -- ---- a child by its entry
 
-module _ (v : View) (p prev cur : ℕ) where
-  pub not_high : v.indexes < cur → Follows v p prev cur → ⊥
-  not_high l f = omega (arith, f.child.high)
-
-  pub not_named : (t : List ℕ) (n : ℕ) → t ≡ v.table cur → n ≡ parent_of t → (n ≡ p → ⊥) → Follows v p prev cur → ⊥
-  not_named t n et en ne f = ne (en ∙ ap parent_of et ∙ f.names)
-
-  module _ (e : Entry) (c : Bool) (is : e ≡ entry_of cur (v.table cur)) (ask : c ≡ is_child e.kind) where
-    pub no_child : not c ≡ true → 1 ≤ cur → v.indexes ≤ 4096 → Follows v p prev cur → ⊥
-    no_child n lo few f = not_child cur (v.table cur) e is lo (omega (arith, f.child.high)) (sym ask ∙ not-true c n) f.child.word
-
-    pub follows_says : (t : List ℕ) (n : ℕ) → not c ≡ false → t ≡ v.table cur → n ≡ parent_of t → n ≡ p → 1 ≤ cur → cur ≤ v.indexes → (r : Bool) → Says r (Full v prev) → Says r (Follows v p prev cur)
-    follows_says t n m et en ne lo hi r =
-        let word = child_word cur (v.table cur) e is (sym ask ∙ not-false c m) in
-        says_map r (λ all. record { child = record { low = lo; high = hi; word = word }; names = ap parent_of (sym et) ∙ sym en ∙ ne; full = all }) (λ f. f.full)
-
 module _ (v : View) (p prev cur : ℕ) (r : Bool) (s : Says r (Follows v p prev cur)) (e : not r ≡ false) where
-  pub child_in : (1 ≤ cur) × (cur ≤ v.indexes)
-  child_in = let f = passed r s e in (f.child.low, f.child.high)
-
   pub child_small : v.indexes ≤ 4096 → cur < 4097
   child_small few = omega (arith, (passed r s e).child.high)
 
 -- ---- the scan for a child that no chain has met, or that has no pointer
 
 module _ (v : View) (seen : List ℕ) (i : ℕ) (e : Entry) (c : Bool) (is : e ≡ entry_of i (v.table i)) (ask : c ≡ is_child e.kind) (lo : 1 ≤ i) (high : i ≤ v.indexes) where
-  pub met_other : v.indexes ≤ 4096 → not c ≡ true → ChildMet v seen i
-  met_other few n h = absurd (not_child i (v.table i) e is lo (omega arith) (sym ask ∙ not-true c n) h.word)
+  pub met_other : v.indexes ≤ 4096 → c ≡ false → ChildMet v seen i
+  met_other few n h = absurd (not_child i (v.table i) e is lo (omega arith) (sym ask ∙ n) h.word)
 
-  module _ (n : not c ≡ false) where
+  module _ (n : c ≡ true) where
     child : Child v i
-    child = record { low = lo; high = high; word = child_word i (v.table i) e is (sym ask ∙ not-false c n) }
+    child = record { low = lo; high = high; word = child_word i (v.table i) e is (sym ask ∙ n) }
 
     pub met_not : get_or seen i 0 ≡ 0 → ChildMet v seen i → ⊥
     met_not z h = (h child).0 z
@@ -186,28 +138,8 @@ module _ (v : View) (p : ℕ) (old : List ℕ) (st : Starts v old p) where
       goes_clear : MarkedAt seen cur → ⊥
       goes_clear h = ⊎_elim (λ o. elsewhere (st.passed.only cur o)) (λ o. again o.0 o.1 o.2) (g.only cur h)
 
-    pub stop_follows : (r : Bool) → Says r (Follows v p prev cur) → not r ≡ true → (cur ≡ 0 → ⊥) → R5 v → ⊥
-    stop_follows r s e ne rule = refused r s e (goes_follows rule ne)
-
     pub stop_marked : MarkedAt seen cur → (cur ≡ 0 → ⊥) → R5 v → ⊥
     stop_marked h ne rule = goes_clear rule ne h
-
-    pub going_end : cur ≡ 0 → Passed v seen p
-    going_end z = record {
-      chains = λ a l h. elim (ℕ_discrete a p) [ yes s ↦ (g.steps, rw s chain) | no n ↦ st.passed.chains a (omega arith) h ];
-      hit = λ a l h m f j lj. elim (ℕ_discrete a p) [ yes s ↦ here a s m f j lj | no n ↦ g.keep (walk (next v) a (suc j)) (st.passed.hit a (omega arith) h m f j lj) ];
-      only = λ c h. ⊎_elim (λ o. earlier (st.passed.only c o)) (λ o. record { p = p; upto = omega arith; parent = st.parent; long = g.steps; chain = chain; place = o.0; below = o.1; here = o.2 }) (g.only c h);
-      long = g.long;
-    }
-      where
-        chain : FileChain v p g.steps
-        chain = record { ends = g.ahead ∙ z; each = g.each; names = g.names; full = g.full }
-
-        here : (a : ℕ) → a ≡ p → (m : ℕ) → FileChain v a m → (j : ℕ) → j < m → MarkedAt seen (walk (next v) a (suc j))
-        here a s m f j lj = rw s (g.hit j (omega (arith, chain_one v p m g.steps (rw s at f) chain)))
-
-        earlier : {c : ℕ} → InChain v (p - 1) c → InChain v p c
-        earlier x = record { p = x.p; upto = omega (arith, x.upto); parent = x.parent; long = x.long; chain = x.chain; place = x.place; below = x.below; here = x.here }
 
 -- ---- all tables
 
@@ -234,20 +166,6 @@ module _ (v : View) (seen : List ℕ) (i : ℕ) (e : Entry) (c : Bool) (b : Befo
     where
       below : (a : ℕ) → a ≤ i → Parent v a → a ≤ i - 1
       below a l h = elim (ℕ_discrete a i) [ yes q ↦ absurd (not_parent i (v.table i) e is b.low (sym ask ∙ not-true c n) (rw q at h).word) | no ne ↦ omega arith ]
-
-pub passes_before : (v : View) (seen : List ℕ) (i : ℕ) → Passed v seen (i - 1) → 1 ≤ i → i ≤ v.indexes → Before v seen i
-passes_before v seen i q lo hi = record { low = lo; high = hi; passed = q }
-
-passes_true : (r : Bool) (v : View) (seen : List ℕ) (i : ℕ) → Passes r v seen i → not r ≡ false → Passed v seen i
-passes_true true v seen i m e = m
-passes_true false v seen i m e = absurd (let z : ◌≡◌ {A = ℕ} 0 1 = cc in omega arith)
-
-pub passes_more : (r : Bool) (v : View) (seen : List ℕ) (i : ℕ) → Passes r v seen i → not r ≡ false → Passed v seen (i + 1 - 1)
-passes_more r v seen i m e = let q : i + 1 - 1 ≡ i = omega arith in rw q (passes_true r v seen i m e)
-
-pub passes_stop : (r : Bool) (v : View) (seen : List ℕ) (i : ℕ) → Passes r v seen i → not r ≡ true → R5 v → ⊥
-passes_stop true v seen i m e = absurd (let z : ◌≡◌ {A = ℕ} 0 1 = cc in omega arith)
-passes_stop false v seen i m e = m
 
 -- ---- the rule, where all tables are passed
 

@@ -1,10 +1,9 @@
 -- Sector 1's counts made anew: how the pass goes on and ends.
-use mathlib.Core.Path.{◌≡◌, refl, sym, ◌∙◌}
-use mathlib.Core.Bool.{Bool, true, false, not}
+use mathlib.Core.Path.{◌≡◌, sym, ◌∙◌}
+use mathlib.Core.Bool.{Bool, true, false}
 use Prim.Native.Nat.{ℕ, ◌+◌, ◌/◌, ◌%◌, ◌≤◌}
 use native.Mathlib.Omega.{arith}
 use mathlib.Core.List.{List}
-use borrow.Author.Tests.{not-true, not-false}
 use Rattle.field.specs.Sum.{sum_to}
 use Rattle.field.proofs.Sums.{sum_more, sum_le}
 use Rattle.examination.specs.declared.counts.Counts.{Counts}
@@ -28,15 +27,15 @@ module _ (c : Counts) (i : ℕ) (t : List ℕ) (e : Entry) (f : Bool) (is : e �
       record { active = omega arith; deleted = omega arith; free = omega arith; system = omega arith; directory = omega arith }
 
   module _ (p : Bool) (n : f ≡ false) (parent : p ≡ is_parent e.kind) where
-    pub added_none : not p ≡ true → 1 ≤ i → CountsAdded c i t c
+    pub added_none : p ≡ false → 1 ≤ i → CountsAdded c i t c
     added_none y lo =
-        let o = ones_other i t (not_parent i t e is lo (sym parent ∙ not-true p y)) in
+        let o = ones_other i t (not_parent i t e is lo (sym parent ∙ y)) in
         let f = free_no i t (not_free i t e is (sym free ∙ n)) in
         record { active = omega arith; deleted = omega arith; free = omega arith; system = omega arith; directory = omega arith }
 
-    module _ (y : not p ≡ false) where
+    module _ (y : p ≡ true) where
       own : word_of t ≡ i
-      own = parent_word i t e is (sym parent ∙ not-false p y)
+      own = parent_word i t e is (sym parent ∙ y)
 
       pub added_deleted : e.attribute % 2 ≡ 1 → CountsAdded c i t (record { active = c.active; deleted = c.deleted + 1; free = c.free; system = c.system; directory = c.directory })
       added_deleted d =
@@ -58,9 +57,9 @@ module _ (c : Counts) (i : ℕ) (t : List ℕ) (e : Entry) (f : Bool) (is : e �
 -- ---- the pass over the tables
 
 module _ (v : View) (k : ℕ) (c : Counts) where
-  pub counted_none : Counted v 0 (record { active = 0; deleted = 0; free = 0; system = 0; directory = 0 })
+  pub counted_none : c.active ≡ 0 → c.deleted ≡ 0 → c.free ≡ 0 → c.system ≡ 0 → c.directory ≡ 0 → Counted v 0 c
   unfolding sum_to
-  counted_none = record { active = refl; deleted = refl; free = refl; system = refl; directory = refl }
+  counted_none active deleted free system directory = record { active = active; deleted = deleted; free = free; system = system; directory = directory }
 
   pub counted_more : (r : Counts) → Counted v k c → CountsAdded c (k + 1) (v.table (k + 1)) r → Counted v (k + 1) r
   counted_more r h a =

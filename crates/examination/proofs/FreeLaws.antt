@@ -1,64 +1,28 @@
 -- R4: a table's own bytes, and the walk along the chain of free tables.
 use mathlib.Core.Path.{◌≡◌, sym, ap, ◌∙◌}
-use mathlib.Core.Logic.{inl, inr, ⊎_elim}
-use mathlib.Core.Bool.{Bool, true, false, not}
-use Prim.Native.Nat.{ℕ, suc, ◌+◌, ◌-◌, ◌≤◌, ◌<◌}
+use mathlib.Core.Bool.{Bool, false, not}
+use Prim.Native.Nat.{ℕ, suc, ◌≤◌, ◌<◌}
 use native.Mathlib.Nat.{not-suc-le-zero}
 use native.Mathlib.Decide.{ℕ_discrete, dec_lt}
 use native.Mathlib.Omega.{arith}
 use mathlib.Core.List.{List}
 use lib.ListN.{get_or, set, length, length-set, replicate, length-replicate}
-use lib.Dec.{eqb}
 use Rattle.field.specs.Says.{Says}
-use Rattle.field.specs.Parts.{AllBytes}
-use Rattle.field.proofs.Tests.{says_map, says_eq, passed, refused}
+use Rattle.field.proofs.Tests.{passed}
 use Rattle.field.proofs.NumberLaws.{get_d_zeros}
-use Rattle.tables.specs.Indexes.{word_of, link_of}
-use Rattle.tables.specs.Each.{Each}
+use Rattle.tables.specs.Indexes.{link_of}
 use Rattle.tables.specs.Views.{View, Free, walk, next}
-use Rattle.examination.specs.Met.{MarkedAt, FreeMet}
-use Rattle.tables.specs.Rules.R4.{Own, FreeChain}
+use Rattle.examination.specs.Met.{MarkedAt}
+use Rattle.tables.specs.Rules.R4.{FreeChain}
 use Rattle.tables.proofs.ChainLaws.{walk_once}
-use Rattle.examination.proofs.MetLaws.{up, marked_here, marked_still, marked_before, says_marked}
+use Rattle.examination.proofs.MetLaws.{up, marked_here, marked_still, marked_before}
 
 -- ---- a table's own bytes
 
-module _ (v : View) (i : ℕ) (t : List ℕ) (w : ℕ) (et : t ≡ v.table i) (ew : w ≡ word_of t) where
-  word_is : w ≡ word_of (v.table i)
-  word_is = ew ∙ ap word_of et
-
-  pub own_free : (r : Bool) → w ≡ 0 → Says r (AllBytes t 4 120 0) → Says r (Own v i)
-  own_free r z = says_map r (λ all. record { word = inl (sym word_is ∙ z); blank = λ h. rw et at all }) (λ o. rw et (o.blank (sym word_is ∙ z)))
-
-  pub own_parent : (w ≡ 0 → ⊥) → w ≡ i → Own v i
-  own_parent ne e = record { word = inr (inl (sym word_is ∙ e)); blank = λ h. absurd (ne (word_is ∙ h)) }
-
-  pub own_child : (w ≡ 0 → ⊥) → (w ≡ i → ⊥) → 1 ≤ i → i ≤ v.indexes → v.indexes ≤ 4096 → Says (eqb w (4294967295 - (i - 1))) (Own v i)
-  own_child ne np lo hi few =
-      says_eq w (4294967295 - (i - 1)) (λ e. record { word = inr (inr (omega (arith, word_is))); blank = λ h. absurd (ne (word_is ∙ h)) })
-      (λ o. ⊎_elim (λ z. absurd (ne (word_is ∙ z))) (λ s. ⊎_elim (λ q. absurd (np (word_is ∙ q))) (λ q. omega (arith, word_is)) s) o.word)
-
-  pub free_says : 1 ≤ i → i ≤ v.indexes → Says (eqb w 0) (Free v i)
-  free_says lo hi = says_eq w 0 (λ e. record { low = lo; high = hi; word = sym word_is ∙ e }) (λ f. word_is ∙ f.word)
-
-pub free_high : (v : View) (i : ℕ) → v.indexes < i → Free v i → ⊥
-free_high v i l f = omega (arith, f.high)
-
 -- what is free has a number, and a mark
 module _ (v : View) (i : ℕ) (r : Bool) (s : Says r (Free v i)) (e : not r ≡ false) where
-  pub free_in_lem : (1 ≤ i) × (i ≤ v.indexes)
-  free_in_lem = let f = passed r s e in (f.low, f.high)
-
   pub free_small : v.indexes ≤ 4096 → i < 4097
   free_small few = omega (arith, (passed r s e).high)
-
--- ---- the scan for a free table that the chain has not met
-
-pub met_other : (v : View) (seen : List ℕ) (i : ℕ) (r : Bool) → Says r (Free v i) → not r ≡ true → FreeMet v seen i
-met_other v seen i r s e f = absurd (refused r s e f)
-
-pub met_here : (v : View) (seen : List ℕ) (i : ℕ) (r : Bool) → Says r (Free v i) → not r ≡ false → Says (not (eqb (get_or seen i 0) 0)) (FreeMet v seen i)
-met_here v seen i r s e = says_map (not (eqb (get_or seen i 0) 0)) (λ m f. m) (λ h. h (passed r s e)) (says_marked seen i)
 
 -- ---- the walk
 
@@ -115,27 +79,10 @@ module _ (v : View) (seen : List ℕ) (at : ℕ) (w : Walking v seen at) where
         here : w.steps ≡ m → ⊥
         here e = ne (sym w.ahead ∙ ap (walk (next v) v.head) e ∙ c.ends)
 
-    next_free : (at ≡ 0 → ⊥) → Free v at
-    next_free ne = rw w.ahead at (c.each w.steps (goes_on ne))
-
     met_twice : (at ≡ 0 → ⊥) → MarkedAt seen at → ⊥
     met_twice ne h =
         let o = w.only at h in
         walk_once (next v) v.head m c.ends (λ k l. (c.each k l).low) w.steps (goes_on ne) o.0 o.1 (o.2 ∙ sym w.ahead)
 
-    all_met : at ≡ 0 → Each (FreeMet v seen) 1 (v.indexes + 1)
-    all_met e i l lo f z =
-        let o = c.every i f in
-        elim (dec_lt o.0 w.steps) [ yes lt ↦ w.hit o.0 lt (rw o.2 z) | no h ↦ omega (arith, o.1, (c.each w.steps (omega (arith, o.1))).low, w.ahead) ]
-
-  pub stop_free : (r : Bool) → Says r (Free v at) → not r ≡ true → (at ≡ 0 → ⊥) → ((m : ℕ) × FreeChain v m) → ⊥
-  stop_free r s e ne c = refused r s e (next_free c.0 c.1 ne)
-
   pub stop_marked : MarkedAt seen at → (at ≡ 0 → ⊥) → ((m : ℕ) × FreeChain v m) → ⊥
   stop_marked h ne c = met_twice c.0 c.1 ne h
-
-  pub free_end : at ≡ 0 → (r : Bool) → Says r (Each (FreeMet v seen) 1 (v.indexes + 1)) → Says r ((m : ℕ) × FreeChain v m)
-  free_end e r = says_map r (λ all. (w.steps, whole all)) (λ c. all_met c.0 c.1 e)
-    where
-      whole : Each (FreeMet v seen) 1 (v.indexes + 1) → FreeChain v w.steps
-      whole all = record { ends = w.ahead ∙ e; each = w.each; every = λ i f. w.only i (all i (omega (arith, f.high)) f.low f) }

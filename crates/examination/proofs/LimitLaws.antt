@@ -1,41 +1,33 @@
 -- Marks below a limit: what a run, a table and all tables do to them, and what the lowest sector met twice says of R7.
+use Rattle.std.specs.Prelude.{Option, Some, None}
+use Rattle.std.specs.Option.{option_or}
 use mathlib.Core.Path.{◌≡◌, refl, sym, ap, ◌∙◌}
 use mathlib.Core.Logic.{inl, inr, ⊎_elim}
-use mathlib.Core.Bool.{Bool, true, false, not}
+use mathlib.Core.Bool.{Bool, true, false}
 use mathlib.Core.List.{List}
 use Prim.Native.Nat.{ℕ, ◌+◌, ◌-◌, ◌*◌, ◌≤◌, ◌<◌}
-use native.Mathlib.Decide.{ℕ_discrete, dec_lt}
+use native.Mathlib.Decide.{dec_lt}
 use native.Mathlib.Omega.{arith}
-use lib.ListN.{length, get_or, set, replicate, length-replicate}
-use lib.Seq.{get_or-set_same, get_or-set_other, ext_get_or}
-use borrow.Author.Tests.{not-true, not-false}
-use Rattle.field.specs.Says.{Says}
+use lib.ListN.{length}
 use Rattle.field.specs.Sum.{sum_to}
 use Rattle.field.specs.Numbers.{u16_at, u32_at}
 use Rattle.field.specs.Bits.{bit_at}
-use Rattle.field.proofs.Tests.{says_true, says_false}
 use Rattle.field.proofs.Sums.{sum_more}
-use Rattle.field.proofs.NumberLaws.{get_d_zeros}
 use Rattle.field.proofs.BitLaws.{bit_at_lt}
 use Rattle.tables.specs.declared.index.Pointer.{Pointer}
 use Rattle.tables.specs.declared.places.Places.{Places}
 use Rattle.tables.specs.Places.{Layout}
 use Rattle.tables.specs.Indexes.{word_of, pointer_at, slots_of, base_of, header_start, header_count}
 use Rattle.tables.specs.Views.{View, view_of, cov, over_of, header_over, claims_of, tally, claims_over}
-use Rattle.tables.specs.Each.{Each}
 use Rattle.tables.specs.Rules.R6.{R6}
-use Rattle.tables.specs.Rules.R7.{Owned, nothing}
 use Rattle.tables.specs.Withheld.{Withholds, withheld_over}
 use Rattle.tables.proofs.WithheldLaws.{withheld_once}
 use Rattle.tables.proofs.PointerLaws.{cov_in, cov_before, cov_after, cov_cases, cov_join, header_over_lem, header_other, claimed_inside}
-use Rattle.examination.specs.declared.finding.Finding.{Finding}
-use Rattle.examination.specs.declared.finding.Finding.TheVariants.{Holds, Fails}
-use Rattle.examination.specs.Findings.{Finds, Seeks}
-use Rattle.marks.specs.Marks.{mark_at, MarksAdded, MarksAre, Adds, over_first, over_tables, TableFits}
+use Rattle.examination.specs.Findings.{Finds}
+use Rattle.marks.specs.Marks.{mark_at, MarksAdded, MarksAre, Adds, over_first, over_tables}
 use Rattle.examination.specs.Rulings.{SectorLaw}
 use Rattle.examination.specs.Limits.{Limited, Lowers, MarkLaw}
-use Rattle.examination.proofs.SectorLaws.{R7_each, each_R7}
-use Rattle.marks.proofs.MarkLaws.{zeros_clear, mark_one, run_end, rule_says}
+use Rattle.marks.proofs.MarkLaws.{mark_one}
 
 -- ---- a run, sector by sector
 
@@ -65,9 +57,6 @@ module _ (m₀ m : List ℕ) (from i count limit : ℕ) (long : length m₀ ≡ 
     bits = λ n k. so_far n (omega arith) k;
     twice = inr (omega (arith, a.bits (from + i), cov_after from i (from + i) (omega arith), cov_in from count (from + i) (omega arith) (omega arith)));
   }
-
-  pub run_full : i ≤ count → count ≤ i → Lowers m₀ limit (cov from count) m limit
-  run_full h g = let e = run_end m₀ m from count i a h g in record { long = a.len ∙ long; lower = omega arith; bits = λ n k. e.bits n; twice = inl refl }
 
 -- ---- one after the other
 
@@ -123,9 +112,6 @@ module _ (i : ℕ) (t : List ℕ) (w : ℕ) (ew : w ≡ word_of t) (m : List ℕ
 
 -- the two steps
 module _ (i : ℕ) (t m m' : List ℕ) (limit low : ℕ) (a : Lowers m limit (over_of i t) m' low) where
-  pub fits_after : TableFits i t (length m) → TableFits i t (length m')
-  fits_after f = (let e : length m' ≡ length m = a.long ∙ sym f.long in rw e f)
-
   pub claims_lower : (m'' : List ℕ) (low' : ℕ) → Lowers m' low (header_over i t) m'' low' → Lowers m limit (claims_of i t) m'' low'
   unfolding claims_of
   claims_lower m'' low' d = lowers_more (claims_of i t) a d (λ s. refl)
@@ -146,43 +132,19 @@ module _ (v : View) (m₀ : List ℕ) (limit : ℕ) where
     unfolding over_tables claims_over tally
     all_end h l = let e : k ≡ v.indexes = omega arith in rw e at a
 
--- ---- from marks that are clear
-
--- word by word
-pub clear_more : (m : List ℕ) (j : ℕ) → ((k : ℕ) → k < j → get_or m k 0 ≡ 0) → j < length m → (k : ℕ) → k < j + 1 → get_or (set m j 0) k 0 ≡ 0
-clear_more m j h l k lk = elim (ℕ_discrete k j) [
-  | yes e ↦ rw e (get_or-set_same m j 0 0 l)
-  | no ne ↦ get_or-set_other m j k 0 0 ne ∙ h k (omega arith)
-]
-
-pub cleared : (m : List ℕ) (j : ℕ) → length m ≡ 4096 → ((k : ℕ) → k < j → get_or m k 0 ≡ 0) → 4096 ≤ j → MarksAre m nothing
-cleared m j long h l = record { long = long; bits = λ n. ap (λ (x : List ℕ). mark_at x n) zeros ∙ zeros_clear 4096 n }
-  where
-    zeros : m ≡ replicate 4096 0
-    zeros = ext_get_or 0 m (replicate 4096 0) (long ∙ sym (length-replicate {A = ℕ} 4096 0)) (λ k g. h k (omega arith) ∙ sym (get_d_zeros 4096 k))
-
 -- ---- marks and bits compared
 
-module _ (p : Places) (b m : List ℕ) (limit s : ℕ) (each : Each (λ k. bit_at b p.sectortable k ≡ mark_at m k) 1024 s) where
-  pub unequal_here : (x y : ℕ) → 1024 ≤ s → s < limit → limit ≤ 1024 * (p.zones - 1) → x ≡ bit_at b p.sectortable s → y ≡ mark_at m s → (x ≡ y → ⊥)
-      → Finds (MarkLaw m limit (view_of p b).bit) 1024 (1024 * (p.zones - 1)) (Fails s)
-  unequal_here x y lo l most ex ey ne = record {
-    low = lo;
-    high = omega arith;
-    fails = λ e. ne (ex ∙ e.1 ∙ sym ey);
-    below = λ k lk h. (omega arith, each k lk h);
-  }
+-- below the limit; then the limit is the lowest, where it is not the end
+module _ (p : Places) (b m : List ℕ) (limit : ℕ) where
+  pub unequal_or : (f : Option ℕ) → 1024 ≤ limit → limit < 1024 * (p.zones - 1) → Finds (λ k. bit_at b p.sectortable k ≡ mark_at m k) 1024 limit f
+      → Finds (MarkLaw m limit (view_of p b).bit) 1024 (1024 * (p.zones - 1)) (option_or f (Some limit))
+  unequal_or None lo l h = record { low = lo; high = l; fails = λ e. omega (arith, e.0); below = λ k lk low. (lk, h k lk low) }
+  unequal_or (Some s) lo l h = record { low = h.low; high = omega (arith, h.high); fails = λ e. h.fails e.1; below = λ k lk low. (omega (arith, h.high), h.below k lk low) }
 
-  pub unequal_limit : 1024 ≤ limit → limit ≤ s → limit < 1024 * (p.zones - 1) → Finds (MarkLaw m limit (view_of p b).bit) 1024 (1024 * (p.zones - 1)) (Fails limit)
-  unequal_limit lo h l = record {
-    low = lo;
-    high = l;
-    fails = λ e. omega (arith, e.0);
-    below = λ k lk low. (lk, each k (omega arith) low);
-  }
-
-  pub equal_all : limit ≤ s → 1024 * (p.zones - 1) ≤ limit → Finds (MarkLaw m limit (view_of p b).bit) 1024 (1024 * (p.zones - 1)) Holds
-  equal_all h l k lk lo = (omega arith, each k (omega arith) lo)
+  pub unequal_only : (f : Option ℕ) → limit ≤ 1024 * (p.zones - 1) → 1024 * (p.zones - 1) ≤ limit → Finds (λ k. bit_at b p.sectortable k ≡ mark_at m k) 1024 limit f
+      → Finds (MarkLaw m limit (view_of p b).bit) 1024 (1024 * (p.zones - 1)) f
+  unequal_only None most least h = λ k lk low. (omega arith, h k (omega arith) low)
+  unequal_only (Some s) most least h = record { low = h.low; high = omega (arith, h.high); fails = λ e. h.fails e.1; below = λ k lk low. (omega (arith, h.high), h.below k lk low) }
 
 -- ---- R7
 
@@ -216,9 +178,9 @@ module _ (p : Places) (b withheld m₀ m : List ℕ) (limit : ℕ) (z : MarksAre
   law_same s l e = omega (arith, limited.bits s l)
 
   -- at the limit it fails
-  pub marks_find : 1024 ≤ limit → (f : Finding) → Finds (MarkLaw m limit (view_of p b).bit) 1024 (1024 * (p.zones - 1)) f → Finds (SectorLaw (view_of p b) withheld) 1024 (1024 * (p.zones - 1)) f
-  marks_find low Holds h = λ k lk lo. (let e = h k lk lo in same_law k e.0 e.1)
-  marks_find low (Fails k) h = record { low = h.low; high = h.high; fails = broken; below = λ j lj lo. (let e = h.below j lj lo in same_law j e.0 e.1) }
+  pub marks_find : 1024 ≤ limit → (f : Option ℕ) → Finds (MarkLaw m limit (view_of p b).bit) 1024 (1024 * (p.zones - 1)) f → Finds (SectorLaw (view_of p b) withheld) 1024 (1024 * (p.zones - 1)) f
+  marks_find low None h = λ k lk lo. (let e = h k lk lo in same_law k e.0 e.1)
+  marks_find low (Some k) h = record { low = h.low; high = h.high; fails = broken; below = λ j lj lo. (let e = h.below j lj lo in same_law j e.0 e.1) }
     where
       broken : SectorLaw (view_of p b) withheld k → ⊥
       broken e = elim (dec_lt k limit) [
@@ -230,23 +192,6 @@ module _ (p : Places) (b withheld m₀ m : List ℕ) (limit : ℕ) (z : MarksAre
         ]
       ]
 
-  pub lowest_found : Layout p (length b) → R6 (view_of p b) → Withholds (view_of p b) withheld → (f : Finding) → Finds (MarkLaw m limit (view_of p b).bit) 1024 (1024 * (p.zones - 1)) f
+  pub lowest_found : Layout p (length b) → R6 (view_of p b) → Withholds (view_of p b) withheld → (f : Option ℕ) → Finds (MarkLaw m limit (view_of p b).bit) 1024 (1024 * (p.zones - 1)) f
       → Finds (SectorLaw (view_of p b) withheld) 1024 (1024 * (p.zones - 1)) f
   lowest_found lay r6 list f h = marks_find (limit_inside lay r6 list).0 f h
-
--- whether the rule holds, and where it does not, if that is sought
-module _ (p : Places) (b withheld : List ℕ) (seek : Bool) where
-  module _ (m : List ℕ) (are : MarksAre m (withheld_over (view_of p b) withheld)) (r : Bool) (s : Says r (Owned (view_of p b) (mark_at m))) where
-    pub seek_holds : r ≡ true → Seeks seek (SectorLaw (view_of p b) withheld) 1024 (1024 * (p.zones - 1)) Holds
-    seek_holds e = either seek (R7_each (view_of p b) withheld (says_true r (rule_says (view_of p b) withheld m r are s) e))
-      where
-        either : (x : Bool) → Each (SectorLaw (view_of p b) withheld) 1024 (1024 * (p.zones - 1)) → Seeks x (SectorLaw (view_of p b) withheld) 1024 (1024 * (p.zones - 1)) Holds
-        either true h = h
-        either false h = h
-
-    pub seek_fails : r ≡ false → not seek ≡ true → Seeks seek (SectorLaw (view_of p b) withheld) 1024 (1024 * (p.zones - 1)) (Fails 0)
-    seek_fails e n = rw (not-true seek n) (λ h. says_false r (rule_says (view_of p b) withheld m r are s) e (each_R7 (view_of p b) withheld h))
-
-  pub seek_lowest : (f : Finding) → not seek ≡ false → Finds (SectorLaw (view_of p b) withheld) 1024 (1024 * (p.zones - 1)) f
-      → Seeks seek (SectorLaw (view_of p b) withheld) 1024 (1024 * (p.zones - 1)) f
-  seek_lowest f n h = rw (not-false seek n) h

@@ -18,13 +18,11 @@ use Rattle.field.proofs.Tests.{says_map, says_true, says_false, passed, refused}
 use Rattle.field.proofs.NumberLaws.{get_d_zeros}
 use Rattle.tables.specs.declared.entry.Entry.{Entry}
 use Rattle.tables.specs.Entries.{entry_of, is_parent, is_child}
-use Rattle.tables.specs.Indexes.{parent_of, link_of}
+use Rattle.tables.specs.Indexes.{link_of}
 use Rattle.tables.specs.Views.{View, Parent, Child, walk, next}
-use Rattle.tables.specs.Rules.R5.{Full}
 use Rattle.tables.proofs.KindLaws.{parent_word, not_parent, child_word, not_child}
 use Rattle.tables.proofs.ChainLaws.{walk_add}
-use Rattle.examination.specs.Met.{SomeUsed}
-use Rattle.examination.specs.Chained.{StandsAt, ChildLaw, LinkLaw, ChainLaw}
+use Rattle.examination.specs.Chained.{StandsAt}
 use Rattle.examination.specs.Meetings.{twice, after_meeting, MetOnce, MetTwice, Noted, MetUpTo, PassedPairs, MetWithin}
 use Rattle.examination.proofs.MetLaws.{up}
 
@@ -199,17 +197,10 @@ meeting_none v of met at par n e = record {
 
 -- what is a child has a number, and a note
 module _ (v : View) (at : ℕ) (r : Bool) (a : Says r (Child v at)) (e : r ≡ true) where
-  pub number_in : (1 ≤ at) × (at ≤ v.indexes)
-  number_in = let h = says_true r a e in (h.low, h.high)
-
   pub number_small : v.indexes ≤ 4096 → at < 4097
   number_small few = omega (arith, (says_true r a e).high)
 
 module _ (v : View) (of : ℕ) (met : List ℕ) (at : ℕ) (g : Meeting v of met at) (par : Parent v of) where
-  -- there is a place for its note
-  pub note_in : (r : Bool) → Says r (Child v at) → r ≡ true → v.indexes ≤ 4096 → at < length met
-  note_in r a t few = omega (arith, number_small v at r a t few, g.noted.long)
-
   pub meeting_more : (r : Bool) → Says r (Child v at) → r ≡ true → v.indexes ≤ 4096 → get_or met at 0 ≢ twice → (y : ℕ) → y ≡ after_meeting (get_or met at 0) of → (n : ℕ) → n ≡ link_of (v.table at) → Meeting v of (set met at y) n
   unfolding walk
   meeting_more r a t few w y ey n en = record {
@@ -237,10 +228,6 @@ module _ (v : View) (of : ℕ) (met : List ℕ) (at : ℕ) (g : Meeting v of met
           | no b ↦ (let q : k ≡ g.steps + (k - g.steps) = omega arith in inr (later (k - g.steps) c (rw (← q, ← e) s)))
         ])
       ]
-
-  -- nothing follows
-  pub meeting_end : (r : Bool) → Says r (Child v at) → r ≡ false → MetUpTo v met of
-  meeting_end r a f = rest (λ j c s. absurd (says_false r a f (rw g.ahead at (s.children g.steps (omega arith)))))
 
   -- `at` was met twice, and so was what follows it: the two chains that met in it go on as this one
   pub meeting_stop : get_or met at 0 ≡ twice → MetUpTo v met of
@@ -312,50 +299,6 @@ module _ (v : View) (met : List ℕ) (i : ℕ) (e : Entry) (r : Bool) (is : e �
       below : (p : ℕ) → p ≤ i → Parent v p → p ≤ i - 1
       below p l h = elim (ℕ_discrete p i) [ yes q ↦ absurd (refused r (parent_says v i e is lo hi r ask) f (rw q at h)) | no ne ↦ omega arith ]
 
-pub meets_more : (v : View) (met : List ℕ) (i : ℕ) → MetUpTo v met i → MetUpTo v met (i + 1 - 1)
-meets_more v met i n = let q : i + 1 - 1 ≡ i = omega arith in rw q n
-
-pub meets_all : (v : View) (met : List ℕ) (i : ℕ) → MetUpTo v met (i - 1) → i ≤ v.indexes + 1 → v.indexes < i → MetUpTo v met v.indexes
-meets_all v met i n hi end = let q : i - 1 ≡ v.indexes = omega arith in rw q at n
-
--- ---- a child by its note
-
-pub child_other : (v : View) (i : ℕ) (r : Bool) → Says r (Child v i) → not r ≡ true → Child v i → ChildLaw v i
-child_other v i r a f h = absurd (refused r a f h)
-
-module _ (v : View) (met : List ℕ) (i : ℕ) (n : MetUpTo v met v.indexes) (r : Bool) (a : Says r (Child v i)) (f : not r ≡ false) where
-  pub child_none : get_or met i 0 ≡ 0 → (Child v i → ChildLaw v i) → ⊥
-  child_none z h = let l = h (passed r a f) in n.none i z l.parent l.place l.stands.parent.high l.stands
-
-  pub child_twice : get_or met i 0 ≡ twice → (Child v i → ChildLaw v i) → ⊥
-  child_twice z h = let l = h (passed r a f) in not_alone v (λ p k. p ≤ v.indexes) i l.parent l.place (n.again i z) (λ p k b. l.once p k)
-
-  -- it was met once; x is the parent that it names
-  module _ (t : List ℕ) (et : t ≡ v.table i) (x : ℕ) (ex : x ≡ parent_of t) (nz : get_or met i 0 ≢ 0) (w : get_or met i 0 ≢ twice) where
-    named : x ≡ parent_of (v.table i)
-    named = ex ∙ ap parent_of et
-
-    met_once : MetOnce v (λ p k. p ≤ v.indexes) i (get_or met i 0)
-    met_once = n.once i nz w
-
-    pub child_strange : x ≢ get_or met i 0 → (Child v i → ChildLaw v i) → ⊥
-    child_strange ne h =
-        let l = h (passed r a f) in
-        ne (named ∙ l.names ∙ sym (l.once (get_or met i 0) met_once.place met_once.stands).0)
-
-    pub child_lawful : x ≡ get_or met i 0 → (u : Bool) → Says u (SomeUsed i t) → Says u (Child v i → ChildLaw v i)
-    child_lawful e u = says_map u (λ s c. law (rw et at s)) (λ h. rw et (h (passed r a f)).one)
-      where
-        law : SomeUsed i (v.table i) → ChildLaw v i
-        law s = record {
-          parent = get_or met i 0;
-          place = met_once.place;
-          stands = met_once.stands;
-          once = λ p k q. met_once.once p k q.parent.high q;
-          names = sym named ∙ e;
-          one = s;
-        }
-
 -- ---- a link
 
 module _ (v : View) (i : ℕ) (e : Entry) (is : e ≡ entry_of i (v.table i)) (lo : 1 ≤ i) (hi : i ≤ v.indexes) (r : Bool) (ask : r ≡ is_parent e.kind) where
@@ -364,27 +307,3 @@ module _ (v : View) (i : ℕ) (e : Entry) (is : e ≡ entry_of i (v.table i)) (l
 
   pub chain_child : r ≡ false → v.indexes ≤ 4096 → (u : Bool) → u ≡ is_child e.kind → Says u ((Parent v i) ⊎ (Child v i))
   chain_child f few u q = says_map u (λ h. inr h) (λ h. ⊎_elim (λ g. absurd (says_false r (parent_says v i e is lo hi r ask) f g)) (λ g. g) h) (child_says v i e is lo hi few u q)
-
-module _ (v : View) (i : ℕ) (r : Bool) (a : Says r ((Parent v i) ⊎ (Child v i))) where
-  pub link_other : not r ≡ true → (Parent v i) ⊎ (Child v i) → next v i ≢ 0 → LinkLaw v i
-  link_other f h = absurd (refused r a f h)
-
-  -- it has a link
-  module _ (at : ℕ) (q : at ≡ link_of (v.table i)) (f : not r ≡ false) (ne : at ≢ 0) (u : Bool) (s : Says u (Child v at)) where
-    law : ((Parent v i) ⊎ (Child v i) → next v i ≢ 0 → LinkLaw v i) → LinkLaw v i
-    law h = h (passed r a f) (λ z. ne (q ∙ z))
-
-    pub link_astray : not u ≡ true → ((Parent v i) ⊎ (Child v i) → next v i ≢ 0 → LinkLaw v i) → ⊥
-    link_astray g h = refused u s g (rw q (law h).child)
-
-    pub link_full : not u ≡ false → (w : Bool) → Says w (Full v i) → Says w ((Parent v i) ⊎ (Child v i) → next v i ≢ 0 → LinkLaw v i)
-    link_full g w = says_map w (λ all h z. record { child = rw q at (passed u s g); full = all }) (λ h. (law h).full)
-
--- ---- one table
-
-module _ (v : View) (i : ℕ) (r : Bool) (s : Says r (Child v i → ChildLaw v i)) where
-  pub chain_stop : not r ≡ true → ChainLaw v i → ⊥
-  chain_stop f h = refused r s f h.child
-
-  pub chain_says : not r ≡ false → (u : Bool) → Says u ((Parent v i) ⊎ (Child v i) → next v i ≢ 0 → LinkLaw v i) → Says u (ChainLaw v i)
-  chain_says f u = says_map u (λ h. record { child = passed r s f; link = h }) (λ h. h.link)

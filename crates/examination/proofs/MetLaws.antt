@@ -1,7 +1,6 @@
 -- Marks, a byte for each index: setting one leaves fewer clear, so a walk that marks ends.
-use mathlib.Core.Path.{◌≡◌, refl, sym, ap, ◌∙◌, subst}
+use mathlib.Core.Path.{◌≡◌, sym, ap, ◌∙◌, subst}
 use mathlib.Core.Logic.{⊎_elim}
-use mathlib.Core.Bool.{Bool, true, false, not}
 use Prim.Native.Nat.{ℕ, suc, ◌-◌, ◌<◌}
 use native.Mathlib.Nat.{eq-or-lt_of_le, le_of_suc-le-suc}
 use native.Mathlib.Decide.{ℕ_discrete}
@@ -9,9 +8,6 @@ use native.Mathlib.Omega.{arith}
 use mathlib.Core.List.{List}
 use lib.ListN.{get_or, set, length}
 use lib.Seq.{get_or-set_same, get_or-set_other}
-use lib.Dec.{eqb}
-use borrow.Author.Tests.{eqb-true, eqb-false}
-use Rattle.field.specs.Says.{Says}
 use Rattle.field.specs.Sum.{sum_to}
 use Rattle.field.proofs.Sums.{sum_at}
 use Rattle.examination.specs.Met.{MarkedAt}
@@ -40,10 +36,3 @@ module _ (a : List ℕ) (i : ℕ) (l : i < length a) where
 
   pub marked_before : (k : ℕ) → (k ≡ i → ⊥) → MarkedAt (set a i 1) k → MarkedAt a k
   marked_before k ne h z = h (get_or-set_other a i k 1 0 ne ∙ z)
-
-pub says_marked : (a : List ℕ) (i : ℕ) → Says (not (eqb (get_or a i 0) 0)) (MarkedAt a i)
-says_marked a i = go (eqb (get_or a i 0) 0) refl
-  where
-    go : (t : Bool) → eqb (get_or a i 0) 0 ≡ t → Says (not t) (MarkedAt a i)
-    go true q = λ h. h (eqb-true (get_or a i 0) 0 q)
-    go false q = eqb-false (get_or a i 0) 0 q

@@ -1,57 +1,43 @@
 -- Rulings in order: how a list of them is gone through, and what is known of the one that is named.
+use Rattle.std.specs.Prelude.{Option, Some, None}
 use mathlib.Core.Path.{◌≡◌, refl, sym, ap, ap₂, ◌∙◌}
 use mathlib.Core.Logic.{◌⊎◌, inl, inr}
-use mathlib.Core.Bool.{Bool, true, false}
 use mathlib.Core.List.{List, [], ◌∷◌, ◌++◌}
 use Prim.Native.Nat.{ℕ, ◌<◌}
 use native.Mathlib.Decide.{dec_lt}
 use native.Mathlib.Omega.{arith}
-use Rattle.field.specs.Says.{Says}
-use Rattle.field.proofs.Tests.{no_true}
 use Rattle.tables.specs.Each.{Each}
 use Rattle.examination.specs.declared.fault.Fault.{Fault}
-use Rattle.examination.specs.declared.fault.Fault.TheVariants.{Nothing, AtZone, AtSector, AtIndex, AtCount}
-use Rattle.examination.specs.declared.finding.Finding.{Finding}
-use Rattle.examination.specs.declared.finding.Finding.TheVariants.{Holds, Fails}
-use Rattle.examination.specs.Findings.{Lowest, Finds}
-use Rattle.examination.specs.Rulings.{Ruling, speaks, zone_kind, sector_kind, index_kind, count_kind, BrokenIn, Lower, Names}
-use Rattle.examination.specs.Faults.{rule_of, place_kind_of, fault_place, NamesFault, is_fault, zone_fault, sector_fault, index_fault, count_fault}
+use Rattle.examination.specs.declared.fault.Fault.TheVariants.{AtZone, AtSector, AtIndex, AtCount}
+use Rattle.examination.specs.Findings.{Lowest}
+use Rattle.examination.specs.Rulings.{Ruling, BrokenIn, Lower, Names}
+use Rattle.examination.specs.Faults.{rule_of, place_kind_of, fault_place, NamesFault}
 
--- ---- what was found of one rule is named
+-- ---- the first ruling of a list
 
--- f names this ruling, or nothing
-pub record Verdict (x : Ruling) (f : Fault) : Type 0 where
-  pub names : NamesFault (x ∷ []) f
-  pub kinded : 0 < x.kind
-
-module _ (rule : ℕ) (P : ℕ → Type 0) (from end : ℕ) (g : Fault) where
-  holding : (kind : ℕ) → Each P from end → g ≡ Nothing → Names (speaks rule kind P from end ∷ []) (rule_of g) (place_kind_of g) (fault_place g)
+module _ (x : Ruling) (xs : List Ruling) where
+  -- it fails, at this place lowest
+  pub named_here : (place : ℕ) → Lowest x.law x.from x.end place → Names (x ∷ xs) x.rule x.kind place
   unfolding Names
-  holding kind h e = rw e (inl (h, (refl, refl, refl)))
+  named_here place h = inr (record { rule' = refl; kind' = refl; lowest = h })
 
-  failing : (kind k : ℕ) → Lowest P from end k → rule_of g ≡ rule → place_kind_of g ≡ kind → fault_place g ≡ k → Names (speaks rule kind P from end ∷ []) (rule_of g) (place_kind_of g) (fault_place g)
+  -- it holds, so that what is named is named by those after it
+  pub named_next : (rule kind place : ℕ) → Each x.law x.from x.end → Names xs rule kind place → Names (x ∷ xs) rule kind place
   unfolding Names
-  failing kind k h r c n = inr (record { rule' = r; kind' = c; lowest = rw n h })
+  named_next rule kind place h n = inl (h, n)
 
-  pub zone_verdict : (f : Finding) → Finds P from end f → g ≡ zone_fault rule f → Verdict (speaks rule zone_kind P from end) g
-  zone_verdict Holds h e = record { names = holding zone_kind h e; kinded = omega arith }
-  zone_verdict (Fails k) h e = record { names = failing zone_kind k h (ap rule_of e) (ap place_kind_of e) (ap fault_place e); kinded = omega arith }
-
-  pub sector_verdict : (f : Finding) → Finds P from end f → g ≡ sector_fault rule f → Verdict (speaks rule sector_kind P from end) g
-  sector_verdict Holds h e = record { names = holding sector_kind h e; kinded = omega arith }
-  sector_verdict (Fails k) h e = record { names = failing sector_kind k h (ap rule_of e) (ap place_kind_of e) (ap fault_place e); kinded = omega arith }
-
-  pub index_verdict : (f : Finding) → Finds P from end f → g ≡ index_fault rule f → Verdict (speaks rule index_kind P from end) g
-  index_verdict Holds h e = record { names = holding index_kind h e; kinded = omega arith }
-  index_verdict (Fails k) h e = record { names = failing index_kind k h (ap rule_of e) (ap place_kind_of e) (ap fault_place e); kinded = omega arith }
+-- by no ruling nothing is named
+pub none_named : Names [] 0 0 0
+unfolding Names
+none_named = (refl, refl, refl)
 
 -- a rule as a whole, at place 0
-pub count_verdict : (rule : ℕ) (P : Type 0) (g : Fault) (r : Bool) → Says r P → g ≡ count_fault rule r → Verdict (speaks rule count_kind (λ k. P) 0 1) g
-count_verdict rule P g true s e = record { names = holding rule (λ k. P) 0 1 g count_kind (λ k l lo. s) e; kinded = omega arith }
-count_verdict rule P g false s e = record {
-  names = failing rule (λ k. P) 0 1 g count_kind 0 (record { low = omega arith; high = omega arith; fails = s; below = λ k l lo. absurd (omega arith) }) (ap rule_of e) (ap place_kind_of e) (ap fault_place e);
-  kinded = omega arith;
-}
+module _ (P : Type 0) where
+  pub whole_fails : (P → ⊥) → Lowest (λ k. P) 0 1 0
+  whole_fails h = record { low = omega arith; high = omega arith; fails = h; below = λ k l lo. absurd (omega arith) }
+
+  pub whole_holds : P → Each (λ k. P) 0 1
+  whole_holds h k l lo = h
 
 -- ---- one list after another
 
@@ -65,19 +51,11 @@ abbrev pub HoldAll : List Ruling → Type 0
 HoldAll [] = 0 < 1
 HoldAll (r ∷ rs) = Each r.law r.from r.end × HoldAll rs
 
-pub fault_kind : (f : Fault) → is_fault f ≡ true → 0 < place_kind_of f
-fault_kind Nothing e = no_true (sym e)
-fault_kind (AtZone r z) e = omega arith
-fault_kind (AtSector r s) e = omega arith
-fault_kind (AtIndex r i) e = omega arith
-fault_kind (AtCount r) e = omega arith
-
-pub no_fault : (f : Fault) → is_fault f ≡ false → f ≡ Nothing
-no_fault Nothing e = refl
-no_fault (AtZone r z) e = no_true e
-no_fault (AtSector r s) e = no_true e
-no_fault (AtIndex r i) e = no_true e
-no_fault (AtCount r) e = no_true e
+fault_kind : (f : Fault) → 0 < place_kind_of (Some f)
+fault_kind (AtZone r z) = omega arith
+fault_kind (AtSector r s) = omega arith
+fault_kind (AtIndex r i) = omega arith
+fault_kind (AtCount r) = omega arith
 
 names_stop : (xs ys : List Ruling) (rule kind place : ℕ) → Names xs rule kind place → 0 < kind → Names (xs ++ ys) rule kind place
 unfolding Names
@@ -97,28 +75,17 @@ unfolding Names
 names_on [] ys rule kind place h n = n
 names_on (x ∷ xs) ys rule kind place h n = inl (h.0, names_on xs ys rule kind place h.1 n)
 
-module _ (xs ys : List Ruling) (f : Fault) (h : NamesFault xs f) where
+module _ (xs ys : List Ruling) (f : Option Fault) (h : NamesFault xs f) where
   -- a fault among the first is that of all
-  pub fault_stop : is_fault f ≡ true → NamesFault (xs ++ ys) f
-  fault_stop e = names_stop xs ys (rule_of f) (place_kind_of f) (fault_place f) h (fault_kind f e)
+  pub fault_stop : (x : Fault) → f ≡ Some x → NamesFault (xs ++ ys) (Some x)
+  fault_stop x e = names_stop xs ys (rule_of (Some x)) (place_kind_of (Some x)) (fault_place (Some x)) (rw e at h) (fault_kind x)
 
-  pub no_fault_hold : Kinded xs → is_fault f ≡ false → HoldAll xs
-  no_fault_hold k e = names_hold xs k (rule_of f) (place_kind_of f) (fault_place f) h (ap place_kind_of (no_fault f e))
+  pub no_fault_hold : Kinded xs → f ≡ None → HoldAll xs
+  no_fault_hold k e = names_hold xs k (rule_of f) (place_kind_of f) (fault_place f) h (ap place_kind_of e)
 
   -- where there is none, that of the others is
-  pub fault_next : Kinded xs → is_fault f ≡ false → (g : Fault) → NamesFault ys g → NamesFault (xs ++ ys) g
+  pub fault_next : Kinded xs → f ≡ None → (g : Option Fault) → NamesFault ys g → NamesFault (xs ++ ys) g
   fault_next k e g n = names_on xs ys (rule_of g) (place_kind_of g) (fault_place g) (no_fault_hold k e) n
-
--- one ruling, and those after it
-pub fault_only : (x : Ruling) (f : Fault) → Verdict x f → NamesFault (x ∷ []) f
-fault_only x f v = v.names
-
-module _ (x : Ruling) (ys : List Ruling) (f : Fault) (r : Bool) (v : Verdict x f) (q : r ≡ is_fault f) where
-  pub fault_first : r ≡ true → NamesFault (x ∷ ys) f
-  fault_first e = fault_stop (x ∷ []) ys f v.names (sym q ∙ e)
-
-  pub fault_rest : (g : Fault) → r ≡ false → NamesFault ys g → NamesFault (x ∷ ys) g
-  fault_rest g e n = fault_next (x ∷ []) ys f v.names (v.kinded, omega arith) (sym q ∙ e) g n
 
 -- ---- one result
 
@@ -138,34 +105,28 @@ names_one (x ∷ xs) r k n r' k' n' (inr h) (inl g) = absurd (h.lowest.fails (g.
 names_one (x ∷ xs) r k n r' k' n' (inr h) (inr g) = (h.rule' ∙ sym g.rule', h.kind' ∙ sym g.kind', lowest_one x.law x.from x.end n n' h.lowest g.lowest)
 
 -- an answer has its three numbers, and they have one answer
-pub fault_one : (f g : Fault) → rule_of f ≡ rule_of g → place_kind_of f ≡ place_kind_of g → fault_place f ≡ fault_place g → f ≡ g
-fault_one Nothing Nothing r k n = refl
-fault_one (AtZone a x) (AtZone b y) r k n = ap₂ AtZone r (ap (λ (m : ℕ). record { 0 = m }) n)
-fault_one (AtSector a x) (AtSector b y) r k n = ap₂ AtSector r (ap (λ (m : ℕ). record { 0 = m }) n)
-fault_one (AtIndex a x) (AtIndex b y) r k n = ap₂ AtIndex r (ap (λ (m : ℕ). record { 0 = m }) n)
-fault_one (AtCount a) (AtCount b) r k n = ap AtCount r
-fault_one Nothing (AtZone b y) r k n = absurd (omega arith)
-fault_one Nothing (AtSector b y) r k n = absurd (omega arith)
-fault_one Nothing (AtIndex b y) r k n = absurd (omega arith)
-fault_one Nothing (AtCount b) r k n = absurd (omega arith)
-fault_one (AtZone a x) Nothing r k n = absurd (omega arith)
-fault_one (AtZone a x) (AtSector b y) r k n = absurd (omega arith)
-fault_one (AtZone a x) (AtIndex b y) r k n = absurd (omega arith)
-fault_one (AtZone a x) (AtCount b) r k n = absurd (omega arith)
-fault_one (AtSector a x) Nothing r k n = absurd (omega arith)
-fault_one (AtSector a x) (AtZone b y) r k n = absurd (omega arith)
-fault_one (AtSector a x) (AtIndex b y) r k n = absurd (omega arith)
-fault_one (AtSector a x) (AtCount b) r k n = absurd (omega arith)
-fault_one (AtIndex a x) Nothing r k n = absurd (omega arith)
-fault_one (AtIndex a x) (AtZone b y) r k n = absurd (omega arith)
-fault_one (AtIndex a x) (AtSector b y) r k n = absurd (omega arith)
-fault_one (AtIndex a x) (AtCount b) r k n = absurd (omega arith)
-fault_one (AtCount a) Nothing r k n = absurd (omega arith)
-fault_one (AtCount a) (AtZone b y) r k n = absurd (omega arith)
-fault_one (AtCount a) (AtSector b y) r k n = absurd (omega arith)
-fault_one (AtCount a) (AtIndex b y) r k n = absurd (omega arith)
+pub fault_one : (f g : Option Fault) → rule_of f ≡ rule_of g → place_kind_of f ≡ place_kind_of g → fault_place f ≡ fault_place g → f ≡ g
+fault_one None None r k n = refl
+fault_one (Some (AtZone a x)) (Some (AtZone b y)) r k n = ap₂ (λ (a m : ℕ). Some (AtZone a (record { 0 = m }))) r n
+fault_one (Some (AtSector a x)) (Some (AtSector b y)) r k n = ap₂ (λ (a m : ℕ). Some (AtSector a (record { 0 = m }))) r n
+fault_one (Some (AtIndex a x)) (Some (AtIndex b y)) r k n = ap₂ (λ (a m : ℕ). Some (AtIndex a (record { 0 = m }))) r n
+fault_one (Some (AtCount a)) (Some (AtCount b)) r k n = ap (λ (a : ℕ). Some (AtCount a)) r
+fault_one None (Some g) r k n = absurd (omega (arith, fault_kind g))
+fault_one (Some f) None r k n = absurd (omega (arith, fault_kind f))
+fault_one (Some (AtZone a x)) (Some (AtSector b y)) r k n = absurd (omega arith)
+fault_one (Some (AtZone a x)) (Some (AtIndex b y)) r k n = absurd (omega arith)
+fault_one (Some (AtZone a x)) (Some (AtCount b)) r k n = absurd (omega arith)
+fault_one (Some (AtSector a x)) (Some (AtZone b y)) r k n = absurd (omega arith)
+fault_one (Some (AtSector a x)) (Some (AtIndex b y)) r k n = absurd (omega arith)
+fault_one (Some (AtSector a x)) (Some (AtCount b)) r k n = absurd (omega arith)
+fault_one (Some (AtIndex a x)) (Some (AtZone b y)) r k n = absurd (omega arith)
+fault_one (Some (AtIndex a x)) (Some (AtSector b y)) r k n = absurd (omega arith)
+fault_one (Some (AtIndex a x)) (Some (AtCount b)) r k n = absurd (omega arith)
+fault_one (Some (AtCount a)) (Some (AtZone b y)) r k n = absurd (omega arith)
+fault_one (Some (AtCount a)) (Some (AtSector b y)) r k n = absurd (omega arith)
+fault_one (Some (AtCount a)) (Some (AtIndex b y)) r k n = absurd (omega arith)
 
-pub faults_one : (xs : List Ruling) (f g : Fault) → NamesFault xs f → NamesFault xs g → f ≡ g
+pub faults_one : (xs : List Ruling) (f g : Option Fault) → NamesFault xs f → NamesFault xs g → f ≡ g
 faults_one xs f g h k =
     let e = names_one xs (rule_of f) (place_kind_of f) (fault_place f) (rule_of g) (place_kind_of g) (fault_place g) h k in
     fault_one f g e.0 e.1 e.2

@@ -1,35 +1,27 @@
 -- A table's pointers, place by place: how a turn goes on, where it stops, and what the rest of the table then decides.
 use mathlib.Core.Path.{◌≡◌, sym, ap, ◌∙◌}
-use mathlib.Core.Bool.{Bool, true, false, not}
+use mathlib.Core.Bool.{Bool, true, false}
 use Prim.Native.Nat.{ℕ, zero, suc, ◌+◌, ◌-◌, ◌*◌, ◌/◌, ◌%◌, ◌≤◌, ◌<◌}
 use native.Mathlib.Nat.{add-suc, add-zero}
 use native.Mathlib.Decide.{dec_lt}
 use native.Mathlib.Omega.{arith}
-use borrow.Author.Count.{below_more}
 use mathlib.Core.List.{List}
 use lib.ListN.{get_or}
-use lib.Dec.{eqb}
 use Rattle.field.specs.Says.{Says}
 use Rattle.field.specs.Numbers.{u16_at, u32_at}
 use Rattle.field.specs.Parts.{AllBytes}
-use Rattle.field.proofs.Tests.{says_true, says_false, passed, refused, says_map, says_eq}
-use borrow.Author.Tests.{not-true, not-false}
+use Rattle.field.proofs.Tests.{says_true, says_map}
 use Rattle.tables.specs.declared.index.Pointer.{Pointer}
-use Rattle.tables.specs.declared.zone.ZoneEntry.{ZoneEntry}
-use Rattle.tables.specs.Kinds.{zone_of}
 use Rattle.tables.specs.declared.entry.Entry.{Entry}
 use Rattle.tables.specs.Entries.{entry_of, is_parent}
 use Rattle.tables.specs.Indexes.{word_of, pointer_at, slots_of, base_of, UsedAt}
 use Rattle.tables.specs.Views.{View}
-use Rattle.tables.specs.Rules.R6.{Run, HeaderRun, HeaderLaw, Shape, PointerLaw}
+use Rattle.tables.specs.Rules.R6.{Shape, PointerLaw}
 use Rattle.examination.specs.Slots.{SlotsLaw, Leading, Heads}
 use Rattle.tables.proofs.KindLaws.{parent_word, not_parent}
 use Rattle.tables.proofs.IndexLaws.{base_parent, slots_in}
 
 -- ---- one pointer
-
-pub unused_says : (s c : ℕ) → s ≡ 0 → Says (eqb c 0) (s + c ≡ 0)
-unused_says s c e = says_eq c 0 (λ z. omega arith) (λ h. omega arith)
 
 six_of : (P : ℕ → Type 0) → P 0 → P 1 → P 2 → P 3 → P 4 → P 5 → (m : ℕ) → m < 6 → P m
 six_of P a b c d e f zero l = a
@@ -61,30 +53,9 @@ module _ (t : List ℕ) (o : ℕ) (q : Pointer) (at : q ≡ pointer_at t o) wher
   pub read_zero : q.start.0 + q.count ≡ 0 → UsedAt t o → ⊥
   read_zero e h = (let z : u32_at t o + u16_at t (o + 4) ≡ 0 = rw at at e in omega arith)
 
-  pub read_used : (q.start.0 + q.count ≡ 0 → ⊥) → UsedAt t o
-  read_used e =
-      let n : u32_at t o + u16_at t (o + 4) ≡ 0 → ⊥ = rw at at e in
-      elim (dec_lt 0 (u32_at t o + u16_at t (o + 4))) [ yes l ↦ l | no l ↦ absurd (n (omega arith)) ]
-
 -- ---- the pointers of a table
 
 module _ (v : View) (t : List ℕ) (at : ℕ) where
-  pub lead_none : Leading v t at 0
-  lead_none k l = absurd (omega arith)
-
-  pub lead_more : (j : ℕ) (q : Pointer) (u r : Bool) → Leading v t at j → q ≡ pointer_at t (at + 6 * j) → Says u (q.start.0 + q.count ≡ 0) → u ≡ false
-      → Says r (Run v q.start.0 q.count) → not r ≡ false → Leading v t at (j + 1)
-  lead_more j q u r lead e s n run p =
-      below_more _ j lead (record { used = read_used t (at + 6 * j) q e (says_false u s n); run = rw e at (passed r run p) })
-
-  pub slots_refused : (n j : ℕ) (q : Pointer) (u r : Bool) → j < n → q ≡ pointer_at t (at + 6 * j) → Says u (q.start.0 + q.count ≡ 0) → u ≡ false
-      → Says r (Run v q.start.0 q.count) → not r ≡ true → SlotsLaw v t at n → ⊥
-  slots_refused n j q u r l e s f run p slots =
-      refused r run p (rw e (slots.used j l (read_used t (at + 6 * j) q e (says_false u s f))))
-
-  pub slots_all : (n j : ℕ) → Leading v t at j → n ≤ j → SlotsLaw v t at n
-  slots_all n j lead h = record { first = λ k l f. (lead k (omega arith)).used; used = λ k l f. (lead k (omega arith)).run }
-
   -- after an unused pointer all bytes are null
   module _ (n j : ℕ) (l : j < n) (un : UsedAt t (at + 6 * j) → ⊥) where
     rest_unused : AllBytes t (at + 6 * j) (6 * (n - j)) 0 → (k : ℕ) → k < n → j ≤ k → UsedAt t (at + 6 * k) → ⊥
@@ -114,35 +85,6 @@ module _ (v : View) (t : List ℕ) (at : ℕ) where
       let un = read_zero t (at + 6 * j) q e (says_true u s z) in
       says_map r (rest_slots n j l un lead) (slots_rest n j l un)
 
--- ---- a parent's first pointer and header pointer
-
--- a header's run: where its first sector and its last do not lie in one zone; and by the entry of that zone
-module _ (v : View) (a c z : ℕ) (is : z ≡ zone_of a) where
-  pub run_apart : (last : ℕ) → last ≡ zone_of (a + (c - 1)) → (last ≡ z → ⊥) → HeaderRun v a c → ⊥
-  run_apart last e ne h = ne (e ∙ h.one ∙ sym is)
-
-  pub header_says : (last : ℕ) (e : ZoneEntry) → last ≡ zone_of (a + (c - 1)) → last ≡ z → e ≡ v.zone z → 1 ≤ c → c ≤ 32 → 1024 ≤ a → a + c ≤ 1024 * (v.zones - 1) → Says (eqb e.ztype 2) (HeaderRun v a c)
-  header_says last e el same at some few low high =
-      let q : e.ztype ≡ (v.zone (zone_of a)).ztype = ap (λ (x : ZoneEntry). x.ztype) at ∙ ap (λ (n : ℕ). (v.zone n).ztype) is in
-      says_eq e.ztype 2
-      (λ t. record { some = some; few = few; low = low; high = high; one = sym el ∙ same ∙ is; typed = sym q ∙ t })
-      (λ h. q ∙ h.typed)
-
--- the header pointer: zero, or by its run
-module _ (v : View) (t : List ℕ) (q : Pointer) (u : Bool) (at : q ≡ pointer_at t 58) (s : Says u (q.start.0 + q.count ≡ 0)) where
-  pub header_none : u ≡ true → HeaderLaw v t
-  header_none e = record { run = λ h. absurd (read_zero t 58 q at (says_true u s e) h) }
-
-  pub header_used : (r : Bool) → u ≡ false → Says r (HeaderRun v q.start.0 q.count) → Says r (HeaderLaw v t)
-  header_used r e = says_map r (λ h. record { run = λ _. rw at at h }) (λ law. rw at (law.run (read_used t 58 q at (says_false u s e))))
-
-module _ (v : View) (t : List ℕ) (q : Pointer) (u : Bool) (at : q ≡ pointer_at t 64) (s : Says u (q.start.0 + q.count ≡ 0)) where
-  pub heads_none : u ≡ true → Heads v t → ⊥
-  heads_none e h = read_zero t 64 q at (says_true u s e) h.one
-
-  pub heads_says : (r : Bool) → u ≡ false → Says r (HeaderLaw v t) → Says r (Heads v t)
-  heads_says r e = says_map r (λ h. record { one = read_used t 64 q at (says_false u s e); header = h }) (λ h. h.header)
-
 -- ---- a table
 
 -- all pointers stand before the link
@@ -150,9 +92,6 @@ pub slots_room : (i : ℕ) (t : List ℕ) (at n : ℕ) → at ≡ base_of i t �
 slots_room i t at n base slots = omega (arith, slots_in i t)
 
 module _ (v : View) (i : ℕ) (t : List ℕ) where
-  shape_slots : Shape v i t → SlotsLaw v t (base_of i t) (slots_of i t)
-  shape_slots h = record { first = h.first; used = h.used }
-
   shape_heads : word_of t ≡ i → Shape v i t → Heads v t
   shape_heads e h = record { one = rw (base_parent i t e) at (h.one e); header = h.header e }
 
@@ -162,19 +101,13 @@ module _ (v : View) (i : ℕ) (t : List ℕ) where
   shape_parent : SlotsLaw v t (base_of i t) (slots_of i t) → word_of t ≡ i → Heads v t → Shape v i t
   shape_parent s e h = record { first = s.first; used = s.used; one = λ w. rw (base_parent i t e) h.one; header = λ w. h.header }
 
-module _ (v : View) (i : ℕ) (t : List ℕ) (at n : ℕ) (r : Bool) (is : t ≡ v.table i) (base : at ≡ base_of i t) (slots : n ≡ slots_of i t) (s : Says r (SlotsLaw v t at n)) where
-  holds : not r ≡ false → SlotsLaw v t (base_of i t) (slots_of i t)
-  holds e = rw (base, slots) at (passed r s e)
-
-  pub table_refused : not r ≡ true → PointerLaw v i → ⊥
-  table_refused e law = refused r s e (rw (base, slots) (shape_slots v i t (rw is law)))
-
+module _ (v : View) (i : ℕ) (t : List ℕ) (at n : ℕ) (is : t ≡ v.table i) (base : at ≡ base_of i t) (slots : n ≡ slots_of i t) where
   -- by what the table is
-  module _ (e : Entry) (c : Bool) (d : e ≡ entry_of i (v.table i)) (ask : c ≡ is_parent e.kind) (h : not r ≡ false) where
-    pub table_child : 1 ≤ i → not c ≡ true → PointerLaw v i
-    table_child lo n = rw is at (shape_child v i t (holds h) (λ w. not_parent i (v.table i) e d lo (sym ask ∙ not-true c n) (ap word_of (sym is) ∙ w)))
+  module _ (e : Entry) (c : Bool) (d : e ≡ entry_of i (v.table i)) (ask : c ≡ is_parent e.kind) (h : SlotsLaw v t at n) where
+    pub table_child : 1 ≤ i → c ≡ false → PointerLaw v i
+    table_child lo n = rw is at (shape_child v i t (rw (base, slots) at h) (λ w. not_parent i (v.table i) e d lo (sym ask ∙ n) (ap word_of (sym is) ∙ w)))
 
-    pub table_says : (p : Bool) → not c ≡ false → Says p (Heads v t) → Says p (PointerLaw v i)
+    pub table_says : (p : Bool) → c ≡ true → Says p (Heads v t) → Says p (PointerLaw v i)
     table_says p n =
-        let o : word_of t ≡ i = ap word_of is ∙ parent_word i (v.table i) e d (sym ask ∙ not-false c n) in
-        says_map p (λ x. rw is at (shape_parent v i t (holds h) o x)) (λ law. shape_heads v i t o (rw is law))
+        let o : word_of t ≡ i = ap word_of is ∙ parent_word i (v.table i) e d (sym ask ∙ n) in
+        says_map p (λ x. rw is at (shape_parent v i t (rw (base, slots) at h) o x)) (λ law. shape_heads v i t o (rw is law))

@@ -16,23 +16,20 @@ use Rattle.field.specs.Says.{Says}
 use Rattle.field.specs.Sum.{sum_to}
 use Rattle.field.specs.Numbers.{u16_at, u32_at}
 use Rattle.field.proofs.Sums.{sum_more}
-use Rattle.field.proofs.Tests.{says_map, says_eq, passed, refused}
+use Rattle.field.proofs.Tests.{says_map, passed, refused}
 use Rattle.field.proofs.NumberLaws.{get_d_zeros}
 use Rattle.tables.specs.declared.places.Places.{Places}
 use Rattle.tables.specs.declared.index.Pointer.{Pointer}
-use Rattle.tables.specs.declared.zone.ZoneEntry.{ZoneEntry}
 use Rattle.tables.specs.declared.entry.Entry.{Entry}
 use Rattle.tables.specs.Kinds.{zone_of}
-use Rattle.tables.specs.Dates.{Date}
-use Rattle.tables.specs.Names.{Name}
 use Rattle.tables.specs.Zones.{zone_at}
-use Rattle.tables.specs.Indexes.{variable_bit, table_at, word_of, name_of, created_of, changed_of, length_of, attribute_of, pointer_at, slots_of, base_of, start_of, count_of, sectors_of, file_of}
+use Rattle.tables.specs.Indexes.{variable_bit, table_at, word_of, attribute_of, pointer_at, slots_of, base_of, start_of, count_of, sectors_of, file_of}
 use Rattle.tables.specs.Views.{View, view_of, only_if, tally}
 use Rattle.tables.specs.Each.{Each}
 use Rattle.tables.specs.Entries.{entry_of, is_parent, is_variable}
 use Rattle.tables.specs.Rules.R6.{R6, Shape}
 use Rattle.tables.specs.Rules.R8.{file_sectors, file_type, InType, File, FileLaw}
-use Rattle.examination.specs.Surveys.{RunType, TableType, VariableFile, sectors_to, InTypeTo, Summed, TypesMarked, LengthLaw, Weighted, ParentLaw}
+use Rattle.examination.specs.Surveys.{RunType, TableType, VariableFile, sectors_to, InTypeTo, Summed, TypesMarked, ParentLaw}
 use Rattle.tables.proofs.KindLaws.{parent_word, not_parent, variable_word, variable_bit_lem, not_variable}
 use Rattle.tables.proofs.IndexLaws.{base_low, slots_in}
 use Rattle.tables.proofs.Sector1CountLaws.{only_eq, only_ne, only_le}
@@ -58,9 +55,6 @@ sectors_few v i t h = omega (arith, sum_most (slots_of i t) 32767 (λ j. count_o
 pub summed_none : (v : View) → Summed v 0 (replicate 4097 0)
 unfolding sum_to
 summed_none v = record { long = length-replicate {A = ℕ} 4097 0; sum = λ f hi lo. get_d_zeros 4097 f }
-
-pub summed_end : (v : View) (k n : ℕ) (s : List ℕ) → Summed v k s → k ≤ n → n ≤ k → Summed v n s
-summed_end v k n s h le ge = rw (let e : n ≡ k = omega arith in e) h
 
 -- one table more: it is of file g, or it is not
 module _ (v : View) (k g : ℕ) where
@@ -112,34 +106,19 @@ module _ (v : View) (k : ℕ) (s : List ℕ) (t : List ℕ) (f : ℕ) where
 -- ---- zone types
 
 module _ (p : Places) (b : List ℕ) (a c ty : ℕ) where
-  pub run_none : c ≡ 0 → RunType (view_of p b) a c ty
-  run_none e s l h = absurd (omega arith)
-
-  pub run_not : (from z last : ℕ) (e : ZoneEntry) → (c ≡ 0 → ⊥) → from ≡ zone_of a → from ≤ z → last ≡ zone_of (a + (c - 1)) → z ≤ last → e ≡ zone_at p b z → (e.ztype ≡ ty → ⊥) → RunType (view_of p b) a c ty → ⊥
-  run_not from z last e nz x lo q hi r ne all =
-      elim (dec_lt a (1024 * (z - 1))) [
-        | yes l ↦ at (1024 * (z - 1)) (omega arith) (omega arith) (omega arith)
-        | no l ↦ at a (omega arith) (omega arith) (omega arith)
-      ]
+  -- zone by zone
+  pub run_each : (from end : ℕ) (r : Bool) → (c ≡ 0 → ⊥) → from ≡ zone_of a → end ≡ zone_of (a + (c - 1)) + 1 → Says r (Each (λ z. (zone_at p b z).ztype ≡ ty) from end) → Says r (RunType (view_of p b) a c ty)
+  run_each from end r some f e = says_map r (λ each s l h. each (zone_of s) (omega arith) (omega arith)) each
     where
-      at : (s : ℕ) → s < a + c → a ≤ s → zone_of s ≡ z → ⊥
-      at s l h d = ne (ap (λ (x : ZoneEntry). x.ztype) r ∙ (rw d at (all s l h)))
-
-  -- a run within one zone
-  pub run_one : (z last : ℕ) (e : ZoneEntry) → (c ≡ 0 → ⊥) → z ≡ zone_of a → last ≡ zone_of (a + (c - 1)) → z ≡ last → e ≡ zone_at p b z → Says (eqb e.ztype ty) (RunType (view_of p b) a c ty)
-  run_one z last e nz x y d r =
-      let q : e.ztype ≡ (zone_at p b (zone_of a)).ztype = ap (λ (n : ZoneEntry). n.ztype) r ∙ ap (λ (n : ℕ). (zone_at p b n).ztype) x in
-      says_eq
-      e.ztype
-      ty
-      (λ t s l h. ap (λ (n : ℕ). (zone_at p b n).ztype) (let g : zone_of s ≡ zone_of a = omega arith in g) ∙ sym q ∙ t)
-      (λ all. q ∙ all a (omega arith) (omega arith))
-
-  pub run_more : (from z : ℕ) (e : ZoneEntry) → Each (λ z. (zone_at p b z).ztype ≡ ty) from z → e ≡ zone_at p b z → e.ztype ≡ ty → Each (λ z. (zone_at p b z).ztype ≡ ty) from (z + 1)
-  run_more from z e each r q = below_more _ _ each (λ h. ap (λ (x : ZoneEntry). x.ztype) (sym r) ∙ q)
-
-  pub run_all : (from z last : ℕ) → Each (λ z. (zone_at p b z).ztype ≡ ty) from z → from ≡ zone_of a → last ≡ zone_of (a + (c - 1)) → last < z → RunType (view_of p b) a c ty
-  run_all from z last each x q over s l h = each (zone_of s) (omega arith) (omega arith)
+      each : RunType (view_of p b) a c ty → Each (λ z. (zone_at p b z).ztype ≡ ty) from end
+      each all z l lo =
+          elim (dec_lt a (1024 * (z - 1))) [
+            | yes m ↦ at (1024 * (z - 1)) (omega arith) (omega arith) (omega arith)
+            | no m ↦ at a (omega arith) (omega arith) (omega arith)
+          ]
+        where
+          at : (s : ℕ) → s < a + c → a ≤ s → zone_of s ≡ z → (zone_at p b z).ztype ≡ ty
+          at s l h d = rw d at (all s l h)
 
 -- a run of a lawful table ends within the zones
 pub run_within : (v : View) (i : ℕ) (t : List ℕ) (j base : ℕ) (q : Pointer) → Shape v i t → j < slots_of i t → base ≡ base_of i t → q ≡ pointer_at t (base + 6 * j) → q.start.0 + q.count ≤ 1024 * v.zones
@@ -148,22 +127,10 @@ run_within v i t j base q h l e r =
     let d : q.count ≡ count_of i t j = ap (λ (x : Pointer). x.count) r ∙ ap (λ (x : ℕ). u16_at t (x + 6 * j + 4)) e in
     elim (dec_lt 0 (start_of i t j + count_of i t j)) [ yes u ↦ omega (arith, (h.used j l u).high) | no u ↦ omega arith ]
 
--- a table's runs, each read through its pointer: one that lies elsewhere
-module _ (p : Places) (b : List ℕ) (i : ℕ) (t : List ℕ) (ty j base : ℕ) (q : Pointer) (r : Bool) where
-  run_says : base ≡ base_of i t → q ≡ pointer_at t (base + 6 * j) → Says r (RunType (view_of p b) q.start.0 q.count ty) → Says r (RunType (view_of p b) (start_of i t j) (count_of i t j) ty)
-  run_says e d s = rw (d, e) at s
-
-  pub table_not : base ≡ base_of i t → q ≡ pointer_at t (base + 6 * j) → (slots : ℕ) → slots ≡ slots_of i t → j < slots → Says r (RunType (view_of p b) q.start.0 q.count ty) → not r ≡ true → TableType (view_of p b) i t ty → ⊥
-  table_not e d slots h l s n all = refused r (run_says e d s) n (all j (omega arith))
-
--- the first j runs, which begin at byte base
-module _ (p : Places) (b : List ℕ) (t : List ℕ) (ty j base : ℕ) (all : (k : ℕ) → k < j → RunType (view_of p b) (u32_at t (base + 6 * k)) (u16_at t (base + 6 * k + 4)) ty) where
-  pub table_more : (q : Pointer) (r : Bool) → q ≡ pointer_at t (base + 6 * j) → Says r (RunType (view_of p b) q.start.0 q.count ty) → not r ≡ false
-      → (k : ℕ) → k < j + 1 → RunType (view_of p b) (u32_at t (base + 6 * k)) (u16_at t (base + 6 * k + 4)) ty
-  table_more q r d s n = below_more _ _ all (passed r (rw d at s) n)
-
-  pub table_end : (i slots : ℕ) → slots ≡ slots_of i t → base ≡ base_of i t → slots ≤ j → TableType (view_of p b) i t ty
-  table_end i slots e d le k l = rw d at (all k (omega arith))
+-- pointer by pointer
+pub table_each : (p : Places) (b : List ℕ) (i : ℕ) (t : List ℕ) (ty base slots : ℕ) (r : Bool) → base ≡ base_of i t → slots ≡ slots_of i t
+    → Says r (Each (λ j. RunType (view_of p b) (u32_at t (base + 6 * j)) (u16_at t (base + 6 * j + 4)) ty) 0 slots) → Says r (TableType (view_of p b) i t ty)
+table_each p b i t ty base slots r e d = rw (e, d) (says_map r (λ h j l. h j l (omega arith)) (λ h j l lo. h j l))
 
 -- the ways out of a table's examination
 module _ (p : Places) (b : List ℕ) (i f : ℕ) (e : Entry) (q : Bool) (is : e ≡ entry_of f (table_at p b f)) (ask : q ≡ is_variable e.kind) where
@@ -190,9 +157,6 @@ zero_mark x s e = rw (eq-eqb x 0 e) at s
 pub marked_none : (v : View) → TypesMarked v 0 (replicate 4097 0)
 marked_none v = record { long = length-replicate {A = ℕ} 4097 0; mark = λ f h. rw (get_d_zeros 4097 f) (λ n l. absurd (omega arith)) }
 
-pub marked_end : (v : View) (k n : ℕ) (m : List ℕ) → TypesMarked v k m → k ≤ n → n ≤ k → TypesMarked v n m
-marked_end v k n m h le ge = rw (let e : n ≡ k = omega arith in e) h
-
 -- one table more: it is of another file, or it lies in the file's type too
 module _ (v : View) (k g : ℕ) (r : Bool) where
   type_other : (file_of (k + 1) (v.table (k + 1)) ≡ g → ⊥) → Says r (InTypeTo v k g) → Says r (InTypeTo v (k + 1) g)
@@ -202,12 +166,6 @@ module _ (v : View) (k g : ℕ) (r : Bool) where
   type_same ty s = says_map r (λ h. below_more _ _ h (λ e. ty)) (λ h n l. h n (omega arith)) s
 
 module _ (v : View) (k : ℕ) (m : List ℕ) (t : List ℕ) (f : ℕ) where
-  pub marked_free : TypesMarked v k m → t ≡ v.table (k + 1) → f ≡ file_of (k + 1) t → f < 1 → TypesMarked v (k + 1) m
-  marked_free h e q l = record { long = h.long; mark = λ g x. type_other v k g (eqb (get_or m g 0) 0) (λ y. omega (arith, rw e at q, x.low)) (h.mark g x) }
-
-  pub marked_beyond : TypesMarked v k m → t ≡ v.table (k + 1) → f ≡ file_of (k + 1) t → v.indexes < f → TypesMarked v (k + 1) m
-  marked_beyond h e q l = record { long = h.long; mark = λ g x. type_other v k g (eqb (get_or m g 0) 0) (λ y. omega (arith, rw e at q, x.high)) (h.mark g x) }
-
   pub marked_fits : (r : Bool) → TypesMarked v k m → t ≡ v.table (k + 1) → f ≡ file_of (k + 1) t → Says r (VariableFile v f → TableType v (k + 1) (v.table (k + 1)) (file_type v f)) → not r ≡ false → TypesMarked v (k + 1) m
   marked_fits r h e q s n = record { long = h.long; mark = λ g x. elim (ℕ_discrete g f) [ yes d ↦ here g x d | no d ↦ type_other v k g (eqb (get_or m g 0) 0) (λ y. d (omega (arith, rw e at q))) (h.mark g x) ] }
     where
@@ -292,27 +250,3 @@ module _ (p : Places) (b : List ℕ) (f : ℕ) (e : Entry) (q : Bool) (is : e �
       let one : size ≡ true → variable_bit (attribute_of (table_at p b f)) ≡ 1 = λ y. variable_bit_lem f (table_at p b f) e is lo (sym x ∙ y) in
       let none : size ≡ false → variable_bit (attribute_of (table_at p b f)) ≡ 1 → ⊥ = λ y. not_variable f (table_at p b f) e is lo (sym x ∙ y) w' in
       says_map r (λ y z. sound_file (view_of p b) f s m a k lo hi w' size one none y) (λ y. file_sound (view_of p b) f s m a k lo hi w' size one none (y w')) (rw d at h)
-
--- the ways out of a parent's examination
-module _ (t : List ℕ) (size : Bool) (sectors mark : ℕ) (r : Bool) where
-  pub not_named : (n : List ℕ) → n ≡ name_of t → Says r (Name n) → not r ≡ true → ParentLaw t size sectors mark → ⊥
-  not_named n e s x h = refused r s x (rw e h.name)
-
-  pub not_sized : (len : ℕ) → len ≡ length_of t → Says r (LengthLaw len size sectors mark) → not r ≡ true → ParentLaw t size sectors mark → ⊥
-  not_sized len e s x h = refused r s x (rw e h.lengths)
-
-  pub not_weighted : (a : ℕ) → a ≡ attribute_of t → Says r (Weighted a) → not r ≡ true → ParentLaw t size sectors mark → ⊥
-  not_weighted a e s x h = refused r s x (rw e h.weights)
-
-  pub not_created : (d : List ℕ) → d ≡ created_of t → Says r (Date d) → not r ≡ true → ParentLaw t size sectors mark → ⊥
-  not_created d e s x h = refused r s x (rw e h.created)
-
-  pub sound_says : (r₁ r₂ r₃ r₄ : Bool) (n d₁ d₂ : List ℕ) (len a : ℕ) → n ≡ name_of t → Says r₁ (Name n) → not r₁ ≡ false
-      → len ≡ length_of t → Says r₂ (LengthLaw len size sectors mark) → not r₂ ≡ false → a ≡ attribute_of t → Says r₃ (Weighted a) → not r₃ ≡ false
-      → d₁ ≡ created_of t → Says r₄ (Date d₁) → not r₄ ≡ false → d₂ ≡ changed_of t → Says r (Date d₂) → Says r (ParentLaw t size sectors mark)
-  sound_says r₁ r₂ r₃ r₄ n d₁ d₂ len a e₁ s₁ x₁ el s₂ x₂ ea s₃ x₃ e₄ s₄ x₄ e s =
-      let q₁ : Name (name_of t) = rw e₁ at (passed r₁ s₁ x₁) in
-      let q₂ : LengthLaw (length_of t) size sectors mark = rw el at (passed r₂ s₂ x₂) in
-      let q₃ : Weighted (attribute_of t) = rw ea at (passed r₃ s₃ x₃) in
-      let q₄ : Date (created_of t) = rw e₄ at (passed r₄ s₄ x₄) in
-      says_map r (λ c. record { name = q₁; lengths = q₂; weights = q₃; created = q₄; changed = rw e at c }) (λ h. rw e h.changed) s

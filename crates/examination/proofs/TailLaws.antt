@@ -1,4 +1,5 @@
 -- R1's tails: a law for each way out of what examines them, and the sector in which a tail stands.
+use Rattle.std.specs.Prelude.{Some, None}
 use mathlib.Core.Path.{◌≡◌, refl, ap}
 use mathlib.Core.Logic.{inl, inr}
 use mathlib.Core.Bool.{Bool, true, false, not}
@@ -9,12 +10,11 @@ use mathlib.Core.List.{List}
 use lib.ListN.{get_or, length}
 use Rattle.field.specs.Says.{Says}
 use Rattle.field.specs.Parts.{AllBytes}
-use Rattle.field.proofs.Tests.{passed, refused, says_map}
+use Rattle.field.proofs.Tests.{passed, refused}
 use Rattle.tables.specs.declared.places.Places.{Places}
 use Rattle.tables.specs.Each.{Each}
 use Rattle.tables.specs.Rules.R1.{zone_bytes, sector_bytes, Tails}
 use Rattle.tables.specs.Sector0.{zone_start_of, sector_start_of}
-use Rattle.examination.specs.declared.finding.Finding.TheVariants.{Holds, Fails}
 use Rattle.examination.specs.Examined.{PlacedAt}
 use Rattle.examination.specs.Findings.{Finds}
 use Rattle.examination.specs.Rulings.{TailByte, TailLaw}
@@ -25,13 +25,6 @@ ZoneTail p b = AllBytes b (p.zonetable + 6 * p.zones) (zone_bytes p.zones - 6 * 
 
 abbrev pub SectorTail : Places → List ℕ → Type 0
 SectorTail p b = AllBytes b (p.sectortable + 128 * p.zones) (sector_bytes p.zones - 128 * p.zones) 0
-
-module _ (p : Places) (b : List ℕ) where
-  pub tails_stop : (r : Bool) → Says r (ZoneTail p b) → not r ≡ true → Tails p b → ⊥
-  tails_stop r s e t = refused r s e t.zone
-
-  pub tails_says : (q r : Bool) → Says q (ZoneTail p b) → not q ≡ false → Says r (SectorTail p b) → Says r (Tails p b)
-  tails_says q r s e = says_map r (λ t. record { zone = passed q s e; sector = t }) (λ t. t.sector)
 
 -- ---- sectors of the books
 
@@ -52,15 +45,8 @@ module _ (p : Places) (b : List ℕ) (at : PlacedAt b p) where
 
   -- a tail stands in one sector
   module _ (o : ℕ) where
-    zone_one : p.zonetable + 6 * p.zones ≤ o → o < p.zonetable + zone_bytes p.zones → o / 1024 ≡ (p.zonetable + 6 * p.zones) / 1024
-    zone_one lo hi = omega (arith, zones)
-
     sector_one : p.sectortable + 128 * p.zones ≤ o → o < p.sectortable + sector_bytes p.zones → o / 1024 ≡ (p.sectortable + 128 * p.zones) / 1024
     sector_one lo hi = omega (arith, sectors)
-
-    -- that of the zone table before that of the sector table
-    zone_first : p.sectortable + 128 * p.zones ≤ o → (p.zonetable + 6 * p.zones) / 1024 < o / 1024
-    zone_first lo = omega (arith, zones, sectors, at.stand.sector, at.layout.least)
 
     -- and both stand within the books
     zone_within : o < p.zonetable + zone_bytes p.zones → o / 1024 < length b / 1024
@@ -86,25 +72,9 @@ module _ (p : Places) (b : List ℕ) (at : PlacedAt b p) where
       sector : (o : ℕ) → p.sectortable + 128 * p.zones ≤ o → o < p.sectortable + sector_bytes p.zones → get_or b o 0 ≡ 0
       sector o lo hi = each (o / 1024) (sector_within o hi) (omega arith) o (inr (lo, hi)) refl
 
-  -- the zone table's tail is not null
-  pub zone_fails : (r : Bool) (n : ℕ) → Says r (ZoneTail p b) → not r ≡ true → n ≡ (p.zonetable + 6 * p.zones) / 1024 → Finds (TailLaw p b) 0 (length b / 1024) (Fails n)
-  zone_fails r n s e q = rw q (record {
-    low = omega arith;
-    high = high;
-    fails = λ law. refused r s e (λ k l. law (p.zonetable + 6 * p.zones + k) (inl (omega arith, omega arith)) (zone_one (p.zonetable + 6 * p.zones + k) (omega arith) (omega arith)));
-    below = below;
-  })
-    where
-      high : (p.zonetable + 6 * p.zones) / 1024 < length b / 1024
-      high = zone_within (p.zonetable + 6 * p.zones) (some b p.zonetable (6 * p.zones) (zone_bytes p.zones) r s e)
-
-      below : Each (TailLaw p b) 0 ((p.zonetable + 6 * p.zones) / 1024)
-      below k l lo o (inl h) e = absurd (omega (arith, zone_one o h.0 h.1))
-      below k l lo o (inr h) e = absurd (omega (arith, zone_first o h.0))
-
   module _ (q r : Bool) (s : Says q (ZoneTail p b)) (e : not q ≡ false) (t : Says r (SectorTail p b)) where
     -- the sector table's is not
-    pub sector_fails : (n : ℕ) → not r ≡ true → n ≡ (p.sectortable + 128 * p.zones) / 1024 → Finds (TailLaw p b) 0 (length b / 1024) (Fails n)
+    pub sector_fails : (n : ℕ) → not r ≡ true → n ≡ (p.sectortable + 128 * p.zones) / 1024 → Finds (TailLaw p b) 0 (length b / 1024) (Some n)
     sector_fails n f is = rw is (record { low = omega arith; high = high; fails = fails; below = below })
       where
         fails : TailLaw p b ((p.sectortable + 128 * p.zones) / 1024) → ⊥
@@ -118,5 +88,5 @@ module _ (p : Places) (b : List ℕ) (at : PlacedAt b p) where
         below k l lo o (inr h) e' = absurd (omega (arith, sector_one o h.0 h.1))
 
     -- both are
-    pub tails_hold : not r ≡ false → Finds (TailLaw p b) 0 (length b / 1024) Holds
+    pub tails_hold : not r ≡ false → Finds (TailLaw p b) 0 (length b / 1024) None
     tails_hold f = tails_each (record { zone = passed q s e; sector = passed r t f })

@@ -1,6 +1,6 @@
 -- Whole blocks: blocks of four by the byte, blocks of any size one after the other, and their count by their bits.
 use mathlib.Core.Path.{◌≡◌, refl, sym, ap, ◌∙◌}
-use mathlib.Core.Bool.{Bool, true, false, not}
+use mathlib.Core.Bool.{Bool}
 use Prim.Native.Nat.{ℕ, zero, suc, ◌+◌, ◌-◌, ◌*◌, ◌/◌, ◌%◌, ◌≤◌, ◌<◌}
 use native.Mathlib.Nat.{add-zero, div-eq_of_eq-mul_left}
 use native.Mathlib.Decide.{dec_lt}
@@ -8,27 +8,24 @@ use native.Mathlib.Omega.{arith}
 use mathlib.Core.List.{List}
 use lib.Dec.{eqb}
 use lib.ListN.{get_or}
-use borrow.Author.Count.{below_more}
 use Rattle.field.specs.Says.{Says}
 use Rattle.field.specs.Sum.{sum_to}
 use Rattle.field.specs.Bits.{bit_of, bit_at}
 use Rattle.field.specs.Runs.{AllBits, count_bits}
-use Rattle.field.proofs.Tests.{passed, refused, says_map, says_eq}
+use Rattle.field.proofs.Tests.{says_map, says_eq}
 use Rattle.field.proofs.BitLaws.{bit_at_lt}
 use Rattle.field.proofs.RunLaws.{byte_same}
 use Rattle.tables.specs.declared.places.Places.{Places}
 use Rattle.tables.specs.Kinds.{first_of}
 use Rattle.tables.specs.Blocks.{Block, Whole}
 use Rattle.tables.specs.Rules.R3.{Blocks}
+use Rattle.tables.specs.Each.{Each}
 use Rattle.tables.specs.Sectors.{sector_at}
 use Rattle.tables.proofs.BlockLaws.{clear_blocks_lem}
 
 -- every bit of the block from `from` on is as its first
 abbrev pub BlockSame : List ℕ → ℕ → ℕ → ℕ → Type 0
 BlockSame b base from size = AllBits b base from size (bit_at b base from)
-
-pub same_says : (b : List ℕ) (base from size w : ℕ) (r : Bool) → w ≡ bit_at b base from → Says r (AllBits b base from size w) → Says r (BlockSame b base from size)
-same_says b base from size w r e = says_map r (λ h k l. h k l ∙ e) (λ h k l. h k l ∙ sym e)
 
 -- ---- two blocks of four in a byte
 
@@ -105,67 +102,35 @@ module _ (b : List ℕ) (base at x : ℕ) (whole : at % 8 ≡ 0) (is : x ≡ get
 
 -- ---- a zone's blocks of four, a byte at a time
 
--- so many bytes are of two whole blocks
-abbrev pub TwoTo : List ℕ → ℕ → ℕ → ℕ → Type 0
-TwoTo b base from i = (k : ℕ) → k < i → Two b base (from + 8 * k)
+-- each of the zone's bytes is of two whole blocks
+pub fours_each : (b : List ℕ) (base from : ℕ) (r : Bool) → Says r (Each (λ i. Two b base (from + 8 * i)) 0 128) → Says r (Whole (bit_at b base) from 4)
+fours_each b base from r = says_map r whole each
+  where
+    whole : Each (λ i. Two b base (from + 8 * i)) 0 128 → Whole (bit_at b base) from 4
+    whole h k l = elim (dec_lt (k % 2) 1) [ yes e ↦ even (omega arith) | no o ↦ odd (omega arith) ]
+      where
+        even : k % 2 ≡ 0 → BlockSame b base (from + k * 4) 4
+        even e = let p : from + 8 * (k / 2) ≡ from + k * 4 = omega arith in rw p at (h (k / 2) (omega arith) (omega arith)).0
 
-module _ (b : List ℕ) (base from : ℕ) where
-  pub fours_none : TwoTo b base from 0
-  fours_none k l = absurd (omega arith)
+        odd : k % 2 ≡ 1 → BlockSame b base (from + k * 4) 4
+        odd e = let p : from + 8 * (k / 2) + 4 ≡ from + k * 4 = omega arith in rw p at (h (k / 2) (omega arith) (omega arith)).1
 
-  pub fours_more : (i : ℕ) (r : Bool) → TwoTo b base from i → Says r (Two b base (from + 8 * i)) → not r ≡ false → TwoTo b base from (i + 1)
-  fours_more i r h s e = below_more _ _ h (passed r s e)
+    each : Whole (bit_at b base) from 4 → Each (λ i. Two b base (from + 8 * i)) 0 128
+    each w i l lo =
+        let p : from + i * 2 * 4 ≡ from + 8 * i = omega arith in
+        let q : from + (i * 2 + 1) * 4 ≡ from + 8 * i + 4 = omega arith in
+        (rw p at (w (i * 2) (omega arith)), rw q at (w (i * 2 + 1) (omega arith)))
 
-  pub fours_stop : (i : ℕ) (r : Bool) → i < 128 → Says r (Two b base (from + 8 * i)) → not r ≡ true → Whole (bit_at b base) from 4 → ⊥
-  fours_stop i r l s e w =
-      let p : from + i * 2 * 4 ≡ from + 8 * i = omega arith in
-      let q : from + (i * 2 + 1) * 4 ≡ from + 8 * i + 4 = omega arith in
-      refused r s e (rw p at (w (i * 2) (omega arith)), rw q at (w (i * 2 + 1) (omega arith)))
-
-  pub fours_end : (i : ℕ) → TwoTo b base from i → 128 ≤ i → Whole (bit_at b base) from 4
-  fours_end i h l k lk = elim (dec_lt (k % 2) 1) [ yes e ↦ even (omega arith) | no o ↦ odd (omega arith) ]
-    where
-      even : k % 2 ≡ 0 → BlockSame b base (from + k * 4) 4
-      even e = let p : from + 8 * (k / 2) ≡ from + k * 4 = omega arith in rw p at (h (k / 2) (omega arith)).0
-
-      odd : k % 2 ≡ 1 → BlockSame b base (from + k * 4) 4
-      odd e = let p : from + 8 * (k / 2) + 4 ≡ from + k * 4 = omega arith in rw p at (h (k / 2) (omega arith)).1
-
--- ---- a zone's blocks, one after the other
-
-abbrev pub BlocksSame : List ℕ → ℕ → ℕ → ℕ → ℕ → Type 0
-BlocksSame b base from size i = (k : ℕ) → k < i → BlockSame b base (from + k * size) size
-
-module _ (b : List ℕ) (base from size : ℕ) where
-  pub blocks_none : BlocksSame b base from size 0
-  blocks_none k l = absurd (omega arith)
-
-  pub blocks_more : (i : ℕ) (r : Bool) → BlocksSame b base from size i → Says r (BlockSame b base (from + i * size) size) → not r ≡ false → BlocksSame b base from size (i + 1)
-  blocks_more i r h s e = below_more _ _ h (passed r s e)
-
-  pub blocks_stop : (i : ℕ) (r : Bool) → i < 1024 / size → Says r (BlockSame b base (from + i * size) size) → not r ≡ true → Whole (bit_at b base) from size → ⊥
-  blocks_stop i r l s e w = refused r s e (w i l)
-
-  pub blocks_end : (i : ℕ) → BlocksSame b base from size i → 1024 / size ≤ i → Whole (bit_at b base) from size
-  blocks_end i h l k lk = h k (omega arith)
-
--- blocks of one sector are whole
-pub ones_whole : (f : ℕ → ℕ) (from size : ℕ) → size ≡ 1 → Whole f from size
-ones_whole f from size e k l j lj = ap f (let q : from + k * size + j ≡ from + k * size = omega arith in q)
-
-pub fours_says : (f : ℕ → ℕ) (from size : ℕ) (r : Bool) → size ≡ 4 → Says r (Whole f from 4) → Says r (Whole f from size)
-fours_says f from size r e s = rw e s
+-- block by block
+pub blocks_each : (b : List ℕ) (base from size : ℕ) (r : Bool) → Says r (Each (λ i. BlockSame b base (from + i * size) size) 0 (1024 / size)) → Says r (Whole (bit_at b base) from size)
+blocks_each b base from size r = says_map r (λ h k l. h k l (omega arith)) (λ h k l lo. h k l)
 
 -- R3 of a zone whose blocks of `size` sectors are tested and whose set bits are n
 module _ (p : Places) (b : List ℕ) (z from size free : ℕ) (first : from ≡ first_of z) where
-  pub not_whole : (r : Bool) → Says r (Whole (bit_at b p.sectortable) from size) → not r ≡ true → Blocks (sector_at p b) (first_of z) size free → ⊥
-  not_whole r s e h = refused r s e (rw first h.whole)
-
-  pub count_says : (n : ℕ) (r : Bool) → Block size → Says r (Whole (bit_at b p.sectortable) from size) → not r ≡ false → n ≡ count_bits b p.sectortable from 1024
+  pub count_says : (n : ℕ) → Block size → Whole (bit_at b p.sectortable) from size → n ≡ count_bits b p.sectortable from 1024
       → Says (eqb ((1024 - n) / size) free) (Blocks (sector_at p b) (first_of z) size free)
   unfolding count_bits
-  count_says n r k s e h =
-      let w = passed r s e in
+  count_says n k w h =
       let c = clear_blocks_lem (sector_at p b) from size (bit_at_lt b p.sectortable) k w in
       let q : (1024 - n) / size ≡ sum_to (1024 / size) (λ k. 1 - sector_at p b (from + k * size)) = div-eq_of_eq-mul_left k.some (omega arith) in
       rw first at (says_eq {P = Blocks (sector_at p b) from size free} _ free (λ d. record { whole = w; number = sym q ∙ d }) (λ d. q ∙ d.number))

@@ -1,24 +1,22 @@
 -- Runs by zones: a run's part in a zone is whole blocks exactly where its edges are edges of blocks, and a run is lawful exactly where its
 -- part in each zone that it meets is.
-use mathlib.Core.Path.{◌≡◌, refl, sym, ap, ◌∙◌}
+use mathlib.Core.Path.{◌≡◌, sym, ap, ◌∙◌}
 use mathlib.Core.Logic.{◌⊎◌, inl, inr}
-use mathlib.Core.Bool.{Bool, true, false, not}
+use mathlib.Core.Bool.{Bool}
 use Prim.Native.Nat.{ℕ, ◌+◌, ◌-◌, ◌*◌, ◌/◌, ◌%◌, ◌≤◌, ◌<◌}
-use native.Mathlib.Nat.{mul-le-mul_right, mul_assoc, div-add-mod', mod-lt, zero-mod, add-mul-mod_self_right}
+use native.Mathlib.Nat.{mul-le-mul_right, mul_assoc, div-add-mod', mod-lt, add-mul-mod_self_right}
 use native.Mathlib.Decide.{dec_lt, ℕ_discrete}
 use native.Mathlib.Omega.{arith}
 use lib.Dec.{eqb}
 use Rattle.field.specs.Says.{Says}
-use Rattle.field.proofs.Tests.{passed, refused, says_map, says_eq}
-use Rattle.tables.specs.declared.zone.ZoneEntry.{ZoneEntry}
+use Rattle.field.proofs.Tests.{says_map, says_eq}
 use Rattle.tables.specs.Kinds.{zone_of, first_of}
-use Rattle.tables.specs.Blocks.{ZoneType, DataType, block_of, Block, Whole}
+use Rattle.tables.specs.Blocks.{DataType, block_of, Block, Whole}
 use Rattle.tables.specs.Each.{Each}
 use Rattle.tables.specs.Views.{View, cov}
 use Rattle.tables.specs.Rules.R6.{Run}
 use Rattle.examination.specs.ZoneParts.{Inside, Lone, Meets, Edge, Part, Parts}
 use Rattle.tables.proofs.BlockLaws.{data_zone, block_of_lem, block_end, block_in}
-use Rattle.examination.proofs.FindingLaws.{each_more}
 use Rattle.tables.proofs.PointerLaws.{cov_in, cov_before, cov_after}
 
 -- ---- edges
@@ -92,15 +90,15 @@ module _ (a c from size : ℕ) (b : Block size) (m : Meets a c from) where
           ]
 
   -- what the code finds: the run begins at no edge; else where it ends decides
-  pub head_cut : (r : Bool) → Says r ((a - from) % size ≡ 0) → not r ≡ true → Whole (cov a c) from size → ⊥
-  head_cut r s n w = refused r s n (head_edge w)
+  pub head_cut : ((a - from) % size ≡ 0 → ⊥) → Whole (cov a c) from size → ⊥
+  head_cut n w = n (head_edge w)
 
-  pub tail_says : (r₁ r₂ : Bool) → Says r₁ ((a - from) % size ≡ 0) → not r₁ ≡ false → Says r₂ (Edge (a + c) from size) → Says r₂ (Whole (cov a c) from size)
-  tail_says r₁ r₂ s n = says_map r₂ to of
+  pub tail_says : (r : Bool) → (a - from) % size ≡ 0 → Says r (Edge (a + c) from size) → Says r (Whole (cov a c) from size)
+  tail_says r n = says_map r to of
     where
       to : Edge (a + c) from size → Whole (cov a c) from size
-      to (inl far) = whole_by (passed r₁ s n) (λ k l j lj lt. omega (arith, block_in k size b l))
-      to (inr e) = whole_by (passed r₁ s n) (λ k l j lj lt. edge_side (a + c - from) size k j e lj lt)
+      to (inl far) = whole_by n (λ k l j lj lt. omega (arith, block_in k size b l))
+      to (inr e) = whole_by n (λ k l j lj lt. edge_side (a + c - from) size k j e lj lt)
 
       of : Whole (cov a c) from size → Edge (a + c) from size
       of w = elim (dec_lt (a + c) (from + 1024)) [ yes l ↦ inr (tail_edge w (omega arith)) | no l ↦ inl (omega arith) ]
@@ -113,14 +111,8 @@ slip n from size b e l =
 
 -- the ways out of the tests of the two edges
 module _ (n from size : ℕ) (b : Block size) (e : from % 1024 ≡ 0) where
-  pub head_none : n ≤ from → (n - from) % size ≡ 0
-  head_none l = (let z : n - from ≡ 0 = omega arith in rw z (zero-mod size))
-
   pub head_here : from < n → Says (eqb (n % size) 0) ((n - from) % size ≡ 0)
   head_here l = says_eq (n % size) 0 (λ t. slip n from size b e (omega arith) ∙ t) (λ t. sym (slip n from size b e (omega arith)) ∙ t)
-
-  pub tail_far : from + 1024 ≤ n → Edge n from size
-  tail_far l = inl l
 
   pub tail_here : from < n → n < from + 1024 → Says (eqb (n % size) 0) (Edge n from size)
   tail_here l h = says_eq (n % size) 0 (λ t. inr (slip n from size b e (omega arith) ∙ t)) of
@@ -154,30 +146,6 @@ module _ (a c size : ℕ) (b : Block size) (h : Lone a c) where
       (λ t. whole_by a c (first_of (zone_of a)) size b lone_meets (lone_head ∙ e) (λ k l j lj lt. edge_side (a + c - first_of (zone_of a)) size k j (lone_tail e ∙ t) lj lt))
       (λ w. sym (lone_tail e) ∙ tail_edge a c (first_of (zone_of a)) size b lone_meets w (omega (arith, h.one)))
 
--- ---- a zone's entry
-
--- a type in which files lie has a block size
-pub data_now : (t : ℕ) (r : Bool) → Says r (DataType t) → not r ≡ false → ZoneType t
-data_now t r s n = data_zone (passed r s n)
-
-module _ (v : View) (a c z : ℕ) (e : ZoneEntry) (at : e ≡ v.zone z) where
-  pub part_untyped : (r : Bool) → Says r (DataType e.ztype) → not r ≡ true → Part v a c z → ⊥
-  part_untyped r s n part = refused r s n (rw at part.typed)
-
-  pub part_says : (t r : Bool) (from size : ℕ) → Says t (DataType e.ztype) → not t ≡ false → from ≡ first_of z → size ≡ block_of e.ztype → Says r (Whole (cov a c) from size) → Says r (Part v a c z)
-  part_says t r from size typed n f s =
-      let q : e.ztype ≡ (v.zone z).ztype = ap (λ (x : ZoneEntry). x.ztype) at in
-      let g : size ≡ block_of (v.zone z).ztype = s ∙ ap block_of q in
-      says_map r (λ w. record { typed = rw at at (passed t typed n); whole = rw (← g, ← f) w }) (λ part. rw (g, f) part.whole)
-
--- the same where the entry is that of the zone of a run within one zone
-module _ (v : View) (a c z : ℕ) (e : ZoneEntry) (at : e ≡ v.zone z) (is : z ≡ zone_of a) where
-  pub lone_untyped : (r : Bool) → Says r (DataType e.ztype) → not r ≡ true → Part v a c (zone_of a) → ⊥
-  lone_untyped r s n part = part_untyped v a c (zone_of a) e (rw is at at) r s n part
-
-  pub part_lone : (t r : Bool) (size : ℕ) → Says t (DataType e.ztype) → not t ≡ false → size ≡ block_of e.ztype → Says r (Whole (cov a c) (first_of (zone_of a)) size) → Says r (Part v a c (zone_of a))
-  part_lone t r size typed n s = part_says v a c (zone_of a) e (rw is at at) t r (first_of (zone_of a)) size typed n refl s
-
 -- ---- zones
 
 -- where a run does not meet a zone it has one value on it
@@ -186,18 +154,8 @@ whole_none a c from size b (inl h) k l j lj = cov_after a c _ (omega arith) ∙ 
 whole_none a c from size b (inr h) k l j lj = cov_before a c _ (omega (arith, block_in k size b l)) ∙ sym (cov_before a c _ (omega (arith, block_in k size b l)))
 
 -- zone by zone
-module _ (v : View) (a c : ℕ) where
-  pub parts_none : (z : ℕ) → z ≡ zone_of a → Each (Part v a c) (zone_of a) z
-  parts_none z e k l h = absurd (omega arith)
-
-  pub parts_more : (z : ℕ) (r : Bool) → Each (Part v a c) (zone_of a) z → Says r (Part v a c z) → not r ≡ false → Each (Part v a c) (zone_of a) (z + 1)
-  parts_more = each_more (Part v a c) (zone_of a)
-
-  pub parts_refused : (z last : ℕ) (r : Bool) → last ≡ zone_of (a + c - 1) → zone_of a ≤ z → z < last + 1 → Says r (Part v a c z) → not r ≡ true → Parts v a c → ⊥
-  parts_refused z last r e lo hi s n parts = refused r s n (parts z (omega arith) lo)
-
-  pub parts_all : (z last : ℕ) → last ≡ zone_of (a + c - 1) → last + 1 ≤ z → Each (Part v a c) (zone_of a) z → Parts v a c
-  parts_all z last e h each k l lo = each k (omega arith) lo
+pub parts_says : (v : View) (a c from end : ℕ) (r : Bool) → from ≡ zone_of a → end ≡ zone_of (a + c - 1) + 1 → Says r (Each (Part v a c) from end) → Says r (Parts v a c)
+parts_says v a c from end r f e s = rw (f, e) at s
 
 module _ (v : View) (a c : ℕ) (i : Inside v.zones a c) (few : c ≤ 32767) where
   parts_run : Parts v a c → Run v a c

@@ -1,7 +1,6 @@
 // The examination rule by rule: the first rule that fails, and the lowest place where it does.
 ghost use Rattle.std.specs.Prelude.{length};
-ghost use Rattle.tables.specs.Places.{Layout};
-ghost use Rattle.tables.specs.Views.{view_of};
+ghost use Rattle.tables.specs.Views.{books_view};
 ghost use Rattle.tables.specs.Withheld.{Withholds};
 ghost use Rattle.tables.specs.Rules.R6.{R6};
 ghost use Rattle.examination.specs.Examined.{PlacedAt};
@@ -10,82 +9,77 @@ ghost use Rattle.examination.specs.Faults.{NamesFault};
 
 use crate::chains::rule5_place;
 use crate::counts::rule9;
-use crate::fault::{Fault, in_count, in_index, in_sector, in_zone, is_fault};
+use crate::fault::Fault;
 use crate::files::rule8;
 use crate::free::{free_chain, own_bytes};
 use crate::owned::rule7;
 use crate::pointers::rule6;
 use crate::tails::rule1_place;
 use crate::zones::{rule2, rule3};
-use tables::places::Places;
+use tables::books::Books;
+use tables::kinds::{Index, Sector, Zone};
 
 // Rules R1 to R3.
-fn zone_fault(b: &[u8], p: Places) -> Fault
-    requires { PlacedAt b.now p }
-    ensures { NamesFault (zone_rulings p b.now) result }
+fn zone_fault(b: &Books<'_>) -> Option<Fault>
+    requires { PlacedAt b.now.raw.now b.now.places }
+    ensures { NamesFault (zone_rulings b.now.places b.now.raw.now) result }
 {
-    let tails = in_sector(1, rule1_place(b, p));
-    if is_fault(tails) {
-        return tails;
+    if let Some(s) = rule1_place(b) {
+        return Some(Fault::AtSector(1, Sector(s)));
     }
-    let entries = in_zone(2, rule2(b, p));
-    if is_fault(entries) {
-        return entries;
+    if let Some(z) = rule2(b) {
+        return Some(Fault::AtZone(2, Zone(z)));
     }
-    in_zone(3, rule3(b, p))
+    let z = rule3(b)?;
+    Some(Fault::AtZone(3, Zone(z)))
 }
 
 // Rules R4 to R6.
-fn index_fault(b: &[u8], p: Places) -> Fault
-    requires { Layout p (length b.now) }
-    ensures { NamesFault (index_rulings p b.now) result }
+fn index_fault(b: &Books<'_>) -> Option<Fault>
+    ensures { NamesFault (index_rulings b.now.places b.now.raw.now) result }
 {
-    let own = in_index(4, own_bytes(b, p));
-    if is_fault(own) {
-        return own;
+    if let Some(i) = own_bytes(b) {
+        return Some(Fault::AtIndex(4, Index(i)));
     }
-    let chain = in_count(4, free_chain(b, p));
-    if is_fault(chain) {
-        return chain;
+    if !free_chain(b) {
+        return Some(Fault::AtCount(4));
     }
-    let children = in_index(5, rule5_place(b, p));
-    if is_fault(children) {
-        return children;
+    if let Some(i) = rule5_place(b) {
+        return Some(Fault::AtIndex(5, Index(i)));
     }
-    in_index(6, rule6(b, p))
+    let i = rule6(b)?;
+    Some(Fault::AtIndex(6, Index(i)))
 }
 
 // Rules R7 to R9, once R6 holds.
-fn file_fault(b: &[u8], p: Places, withheld: &[u32]) -> Fault
-    requires layout { Layout p (length b.now) }
-    requires r6 { R6 (view_of p b.now) }
-    requires withholds { Withholds (view_of p b.now) withheld.now }
-    ensures { NamesFault (file_rulings p b.now withheld.now) result }
+fn file_fault(b: &Books<'_>, withheld: &[u32]) -> Option<Fault>
+    requires r6 { R6 (books_view b.now) }
+    requires withholds { Withholds (books_view b.now) withheld.now }
+    ensures { NamesFault (file_rulings b.now.places b.now.raw.now withheld.now) result }
 {
-    let sectors = in_sector(7, rule7(b, p, withheld, true));
-    if is_fault(sectors) {
-        return sectors;
+    if let Some(s) = rule7(b, withheld, true) {
+        return Some(Fault::AtSector(7, Sector(s)));
     }
-    let files = in_index(8, rule8(b, p));
-    if is_fault(files) {
-        return files;
+    if let Some(i) = rule8(b) {
+        return Some(Fault::AtIndex(8, Index(i)));
     }
-    in_count(9, rule9(b, p))
+    if !rule9(b) {
+        return Some(Fault::AtCount(9));
+    }
+    None
 }
 
 // All nine.
-pub fn lowest_fault(b: &[u8], p: Places, withheld: &[u32]) -> Fault
-    requires placed_at { PlacedAt b.now p }
-    requires withholds { Withholds (view_of p b.now) withheld.now }
-    ensures { NamesFault (rulings p b.now withheld.now) result }
+pub fn lowest_fault(b: &Books<'_>, withheld: &[u32]) -> Option<Fault>
+    requires placed_at { PlacedAt b.now.raw.now b.now.places }
+    requires withholds { Withholds (books_view b.now) withheld.now }
+    ensures { NamesFault (rulings b.now.places b.now.raw.now withheld.now) result }
 {
-    let zones = zone_fault(b, p);
-    if is_fault(zones) {
-        return zones;
+    if let Some(f) = zone_fault(b) {
+        return Some(f);
     }
-    let indexes = index_fault(b, p);
-    if is_fault(indexes) {
-        return indexes;
+    if let Some(f) = index_fault(b) {
+        return Some(f);
     }
-    file_fault(b, p, withheld)
+    file_fault(b, withheld)
 }

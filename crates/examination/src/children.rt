@@ -4,12 +4,13 @@ ghost use Rattle.field.specs.Says.{Says};
 ghost use Rattle.tables.specs.Places.{Layout};
 ghost use Rattle.tables.specs.Indexes.{link_of};
 ghost use Rattle.tables.specs.Each.{Each};
-ghost use Rattle.tables.specs.Views.{view_of};
+ghost use Rattle.tables.specs.Views.{books_view, view_of, Child};
 ghost use Rattle.examination.specs.Met.{SomeUsed, ChildMet, Follows, Before, Starts, Passes};
 ghost use Rattle.tables.specs.Rules.R5.{Full, R5};
 
 use crate::pointers::unused;
 use crate::sizes::MARKS;
+use tables::books::Books;
 use tables::entry::decode;
 use tables::index;
 use tables::kind::{is_child, is_parent};
@@ -17,22 +18,14 @@ use tables::kinds::Index;
 use tables::places::Places;
 
 // Is table i full of pointers?
-pub fn is_full(b: &[u8], p: Places, i: Index) -> bool
-    requires layout { Layout p (length b.now) }
-    requires le_i { (1 ≤ i.0) × (i.0 ≤ p.indexes) }
-    ensures { Says result (Full (view_of p b.now) i.0) }
+pub fn is_full(b: &Books<'_>, i: Index) -> bool
+    requires le_i { (1 ≤ i.0) × (i.0 ≤ b.now.places.indexes) }
+    ensures { Says result (Full (books_view b.now) i.0) }
 {
-    let t = index::table(b, p, i);
+    let t = index::table(b, i);
     let slots = index::slots(i, t);
     let base = index::base(i, t);
-    let mut j: usize = 0;
-    while j < slots {
-        if unused(index::pointer_at(t, base + index::POINTER * j)) {
-            return false;
-        }
-        j += 1;
-    }
-    true
+    (0..slots).all(|j| !unused(index::pointer_at(t, base + index::POINTER * j)))
 }
 
 // Has table t, of number i, at least one pointer?
@@ -42,54 +35,42 @@ pub fn some_used(i: Index, t: &[u8]) -> bool
 {
     let slots = index::slots(i, t);
     let base = index::base(i, t);
-    let mut j: usize = 0;
-    while j < slots {
-        if !unused(index::pointer_at(t, base + index::POINTER * j)) {
-            return true;
-        }
-        j += 1;
-    }
-    false
+    (0..slots).any(|j| !unused(index::pointer_at(t, base + index::POINTER * j)))
+}
+
+// Is i, read from the books, the number of a child?
+pub(crate) fn child_number(b: &Books<'_>, i: Index) -> bool
+    ensures { Says result (Child (books_view b.now) i.0) }
+{
+    1 <= i.0 && i.0 <= b.places.indexes && is_child(decode(b, i))
 }
 
 // May `at`, a link that was read, stand after `last` in the chain of parent `of`?
-fn follows(b: &[u8], p: Places, of: Index, last: Index, at: Index) -> bool
-    requires layout { Layout p (length b.now) }
-    requires le_last { (1 ≤ last.0) × (last.0 ≤ p.indexes) }
-    requires le_at { 1 ≤ at.0 }
-    ensures { Says result (Follows (view_of p b.now) of.0 last.0 at.0) }
+fn follows(b: &Books<'_>, of: Index, last: Index, at: Index) -> bool
+    requires le_last { (1 ≤ last.0) × (last.0 ≤ b.now.places.indexes) }
+    ensures { Says result (Follows (books_view b.now) of.0 last.0 at.0) }
 {
-    if at.0 > p.indexes {
-        return false;
-    }
-    if !is_child(decode(b, p, at)) {
-        return false;
-    }
-    if index::parent(index::table(b, p, at)).0 != of.0 {
-        return false;
-    }
-    is_full(b, p, last)
+    child_number(b, at) && index::parent(index::table(b, at)) == of && is_full(b, last)
 }
 
 // Where table i leads.
-pub fn next_of(b: &[u8], p: Places, i: Index) -> Index
-    requires layout { Layout p (length b.now) }
-    requires le_i { (1 ≤ i.0) × (i.0 ≤ p.indexes) }
-    ensures { result.0 ≡ link_of ((view_of p b.now).table i.0) }
+pub fn next_of(b: &Books<'_>, i: Index) -> Index
+    requires le_i { (1 ≤ i.0) × (i.0 ≤ b.now.places.indexes) }
+    ensures { result.0 ≡ link_of ((books_view b.now).table i.0) }
 {
-    index::link(index::table(b, p, i))
+    index::link(index::table(b, i))
 }
 
 // Marks the children of parent `of`. One that is marked stands in two chains, or twice in this one.
-fn mark_chain(b: &[u8], p: Places, of: Index, seen: &mut [u8]) -> bool
-    requires layout { Layout p (length b.now) }
-    requires starts { Starts (view_of p b.now) seen.old of.0 }
-    ensures { Passes result (view_of p b.now) seen.new of.0 }
+fn mark_chain(b: &Books<'_>, of: Index, seen: &mut [u8]) -> bool
+    requires starts { Starts (books_view b.now) seen.old of.0 }
+    ensures { Passes result (books_view b.now) seen.new of.0 }
 {
     let mut last = of;
-    let mut at = next_of(b, p, of);
+    let mut at = next_of(b, of);
+    // The loop follows links, so it has no range to go over.
     while at.0 != 0 {
-        if !follows(b, p, of, last, at) {
+        if !follows(b, of, last, at) {
             return false;
         }
         let k = at.0 as usize;
@@ -98,70 +79,51 @@ fn mark_chain(b: &[u8], p: Places, of: Index, seen: &mut [u8]) -> bool
         }
         seen[k] = 1;
         last = at;
-        at = next_of(b, p, last);
+        at = next_of(b, last);
     }
     true
 }
 
 // Marks the children of table i, if it is a parent.
-fn mark_children(b: &[u8], p: Places, i: Index, seen: &mut [u8]) -> bool
-    requires layout { Layout p (length b.now) }
-    requires before { Before (view_of p b.now) seen.old i.0 }
-    ensures { Passes result (view_of p b.now) seen.new i.0 }
+fn mark_children(b: &Books<'_>, i: Index, seen: &mut [u8]) -> bool
+    requires before { Before (books_view b.now) seen.old i.0 }
+    ensures { Passes result (books_view b.now) seen.new i.0 }
 {
-    if !is_parent(decode(b, p, i)) {
+    if !is_parent(decode(b, i)) {
         return true;
     }
-    mark_chain(b, p, i, seen)
+    mark_chain(b, i, seen)
 }
 
 // Is table i, if it is a child, marked and not without a pointer?
-fn child_met(b: &[u8], p: Places, seen: &[u8], i: Index) -> bool
-    requires layout { Layout p (length b.now) }
-    requires le_i { (1 ≤ i.0) × (i.0 ≤ p.indexes) }
+fn child_met(b: &Books<'_>, seen: &[u8], i: Index) -> bool
+    requires le_i { (1 ≤ i.0) × (i.0 ≤ b.now.places.indexes) }
     requires seen_len { length seen.now ≡ 4097 }
-    ensures { Says result (ChildMet (view_of p b.now) seen.now i.0) }
+    ensures { Says result (ChildMet (books_view b.now) seen.now i.0) }
 {
-    if !is_child(decode(b, p, i)) {
+    if !is_child(decode(b, i)) {
         return true;
     }
-    let k = i.0 as usize;
-    if seen[k] == 0 {
-        return false;
-    }
-    some_used(i, index::table(b, p, i))
+    seen[i.0 as usize] != 0 && some_used(i, index::table(b, i))
 }
 
 // Is every child marked and not without a pointer?
-fn all_children_met(b: &[u8], p: Places, seen: &[u8]) -> bool
-    requires layout { Layout p (length b.now) }
+fn all_children_met(b: &Books<'_>, seen: &[u8]) -> bool
     requires seen_len { length seen.now ≡ 4097 }
-    ensures { Says result (Each (ChildMet (view_of p b.now) seen.now) 1 (p.indexes + 1)) }
+    ensures { Says result (Each (ChildMet (books_view b.now) seen.now) 1 (b.now.places.indexes + 1)) }
 {
-    let indexes = p.indexes;
-    let mut i: u32 = 1;
-    while i <= indexes {
-        if !child_met(b, p, seen, Index(i)) {
-            return false;
-        }
-        i += 1;
-    }
-    true
+    (1..b.places.indexes + 1).all(|i| child_met(b, seen, Index(i)))
 }
 
 // Walks every chain once, then looks whether a child was left out.
-pub fn rule5(b: &[u8], p: Places) -> bool
-    requires { Layout p (length b.now) }
-    ensures { Says result (R5 (view_of p b.now)) }
+pub fn rule5(b: &Books<'_>) -> bool
+    ensures { Says result (R5 (books_view b.now)) }
 {
-    let indexes = p.indexes;
     let mut seen = [0u8; MARKS];
-    let mut i: u32 = 1;
-    while i <= indexes {
-        if !mark_children(b, p, Index(i), &mut seen) {
+    for i in 1..b.places.indexes + 1 {
+        if !mark_children(b, Index(i), &mut seen) {
             return false;
         }
-        i += 1;
     }
-    all_children_met(b, p, &seen)
+    all_children_met(b, &seen)
 }

@@ -3,10 +3,11 @@ ghost use Rattle.std.specs.Prelude.{◌≤◌, length};
 ghost use Rattle.field.specs.Says.{Says};
 ghost use Rattle.tables.specs.Places.{Layout};
 ghost use Rattle.tables.specs.Indexes.{table_at};
-ghost use Rattle.tables.specs.Views.{view_of};
+ghost use Rattle.tables.specs.Views.{books_view};
 ghost use Rattle.examination.specs.Counted.{Few, CountsAdded, Tallied};
 ghost use Rattle.tables.specs.Rules.R9.{R9};
 
+use tables::books::Books;
 use tables::entry::decode;
 use tables::kind::{is_free, is_parent};
 use tables::kinds::Index;
@@ -14,7 +15,7 @@ use tables::places::Places;
 use tables::{index, sector1};
 
 // The counts that sector 1 has, made anew.
-#[derive(Clone, Copy)]
+#[derive(Clone, Copy, Default, PartialEq, Eq)]
 pub struct Counts {
     pub active: u32,
     pub deleted: u32,
@@ -24,20 +25,16 @@ pub struct Counts {
 }
 
 // c and what table i adds to it.
-fn count_table(c: Counts, b: &[u8], p: Places, i: Index) -> Counts
+fn count_table(c: Counts, b: &Books<'_>, i: Index) -> Counts
     requires few { Few c 4095 }
-    requires layout { Layout p (length b.now) }
-    requires le_i { (1 ≤ i.0) × (i.0 ≤ p.indexes) }
-    ensures { CountsAdded c i.0 (table_at p b.now i.0) result }
+    requires le_i { (1 ≤ i.0) × (i.0 ≤ b.now.places.indexes) }
+    ensures { CountsAdded c i.0 (table_at b.now.places b.now.raw.now i.0) result }
 {
-    let e = decode(b, p, i);
+    let e = decode(b, i);
     if is_free(e) {
         return Counts {
-            active: c.active,
-            deleted: c.deleted,
             free: c.free + 1,
-            system: c.system,
-            directory: c.directory,
+            ..c
         };
     }
     if !is_parent(e) {
@@ -46,66 +43,39 @@ fn count_table(c: Counts, b: &[u8], p: Places, i: Index) -> Counts
     let attribute = e.attribute;
     if attribute % 2 == 1 {
         return Counts {
-            active: c.active,
             deleted: c.deleted + 1,
-            free: c.free,
-            system: c.system,
-            directory: c.directory,
+            ..c
         };
     }
     Counts {
         active: c.active + 1,
-        deleted: c.deleted,
-        free: c.free,
         system: c.system + attribute / index::SYSTEM % 2,
         directory: c.directory + attribute / index::DIRECTORY % 2,
+        ..c
     }
 }
 
 // What all tables add up to.
-fn count_tables(b: &[u8], p: Places) -> Counts
-    requires { Layout p (length b.now) }
-    ensures { Tallied (view_of p b.now) result }
+fn count_tables(b: &Books<'_>) -> Counts
+    ensures { Tallied (books_view b.now) result }
 {
-    let mut c = Counts {
-        active: 0,
-        deleted: 0,
-        free: 0,
-        system: 0,
-        directory: 0,
-    };
-    let n = p.indexes;
-    let mut k: u32 = 0;
-    while k < n {
-        c = count_table(c, b, p, Index(k + 1));
-        k += 1;
+    let mut c = Counts::default();
+    for k in 0..b.places.indexes {
+        c = count_table(c, b, Index(k + 1));
     }
     c
 }
 
 // Are sector 1's counts true, and is the flag 0 or 1?
-pub fn rule9(b: &[u8], p: Places) -> bool
-    requires { Layout p (length b.now) }
-    ensures { Says result (R9 (view_of p b.now)) }
+pub fn rule9(b: &Books<'_>) -> bool
+    ensures { Says result (R9 (books_view b.now)) }
 {
-    let c = count_tables(b, p);
-    if sector1::active_files(b) != c.active {
-        return false;
-    }
-    if sector1::deleted_files(b) != c.deleted {
-        return false;
-    }
-    if sector1::free_indexes(b) != c.free {
-        return false;
-    }
-    if sector1::system_files(b) != c.system {
-        return false;
-    }
-    if sector1::directory_files(b) != c.directory {
-        return false;
-    }
-    if sector1::flag(b) > 1 {
-        return false;
-    }
-    true
+    let stored = Counts {
+        active: sector1::active_files(b.raw),
+        deleted: sector1::deleted_files(b.raw),
+        free: sector1::free_indexes(b.raw),
+        system: sector1::system_files(b.raw),
+        directory: sector1::directory_files(b.raw),
+    };
+    stored == count_tables(b) && sector1::flag(b.raw) <= 1
 }

@@ -8,7 +8,6 @@ pub mod children;
 pub mod counts;
 pub mod fault;
 pub mod files;
-pub mod finding;
 pub mod free;
 pub mod owned;
 pub mod pointers;

@@ -4,22 +4,20 @@ ghost use Rattle.std.specs.Prelude.{◌≡◌, ◌+◌, ◌-◌, ◌*◌, ◌%�
 ghost use Rattle.field.specs.Says.{Says};
 ghost use Rattle.tables.specs.Kinds.{zone_of, first_of};
 ghost use Rattle.tables.specs.Blocks.{Block, Whole};
-ghost use Rattle.tables.specs.Places.{Layout};
 ghost use Rattle.examination.specs.Findings.{Finds};
-ghost use Rattle.tables.specs.Views.{view_of, cov};
+ghost use Rattle.tables.specs.Views.{books_view, cov};
 ghost use Rattle.tables.specs.Rules.R6.{Run, HeaderRun, HeaderLaw, PointerLaw};
 ghost use Rattle.examination.specs.ZoneParts.{Inside, Lone, Meets, Edge, Part, Parts};
 ghost use Rattle.examination.specs.Slots.{SlotsLaw, Heads};
 
-use crate::finding::Finding;
 use field::parts::bytes_all;
 use tables::blocks::{HEADER_TYPE, block_sectors, is_data_type};
+use tables::books::Books;
 use tables::entry::decode;
 use tables::index;
 use tables::index::Pointer;
 use tables::kind::is_parent;
 use tables::kinds::{Index, Sector, Zone, first_sector, zone_of};
-use tables::places::Places;
 use tables::sizes::ZONE;
 use tables::zone::zone_entry;
 
@@ -33,10 +31,7 @@ fn head_whole(start: Sector, first: Sector, size: u32) -> bool
     requires first_value { first.0 % 1024 ≡ 0 }
     ensures { Says result ((start.0 - first.0) % size ≡ 0) }
 {
-    if start.0 <= first.0 {
-        return true;
-    }
-    start.0 % size == 0
+    start <= first || start.0 % size == 0
 }
 
 // Does a run that ends before sector `end` end at such an edge, or after the zone?
@@ -46,10 +41,7 @@ fn tail_whole(end: Sector, first: Sector, size: u32) -> bool
     requires first_lt_end { (first.0 < end.0) × (end.0 ≤ 262144) }
     ensures { Says result (Edge end.0 first.0 size) }
 {
-    if first.0 + ZONE <= end.0 {
-        return true;
-    }
-    end.0 % size == 0
+    first.0 + ZONE <= end.0 || end.0 % size == 0
 }
 
 // Is the run's part in the zone from `first` on made of whole blocks?
@@ -60,24 +52,17 @@ fn edges_whole(q: Pointer, first: Sector, size: u32) -> bool
     requires count_bound { q.start.0 + q.count ≤ 262144 }
     ensures { Says result (Whole (cov q.start.0 q.count) first.0 size) }
 {
-    if !head_whole(q.start, first, size) {
-        return false;
-    }
-    tail_whole(Sector(q.start.0 + q.count), first, size)
+    head_whole(q.start, first, size) && tail_whole(Sector(q.start.0 + q.count), first, size)
 }
 
 // Is the run's part in zone z lawful?
-fn part_valid(b: &[u8], p: Places, q: Pointer, z: Zone) -> bool
-    requires layout { Layout p (length b.now) }
-    requires inside { Inside p.zones q.start.0 q.count }
+fn part_valid(b: &Books<'_>, q: Pointer, z: Zone) -> bool
+    requires inside { Inside b.now.places.zones q.start.0 q.count }
     requires meets { Meets q.start.0 q.count (first_of z.0) }
-    ensures { Says result (Part (view_of p b.now) q.start.0 q.count z.0) }
+    ensures { Says result (Part (books_view b.now) q.start.0 q.count z.0) }
 {
-    let t = zone_entry(b, p, z).ztype;
-    if !is_data_type(t) {
-        return false;
-    }
-    edges_whole(q, first_sector(z), block_sectors(t))
+    let t = zone_entry(b, z).ztype;
+    is_data_type(t) && edges_whole(q, first_sector(z), block_sectors(t))
 }
 
 // Is a run within one zone made of whole blocks?
@@ -86,47 +71,31 @@ fn lone_whole(q: Pointer, size: u32) -> bool
     requires lone { Lone q.start.0 q.count }
     ensures { Says result (Whole (cov q.start.0 q.count) (first_of (zone_of q.start.0)) size) }
 {
-    if q.start.0 % size != 0 {
-        return false;
-    }
-    q.count % size == 0
+    q.start.0 % size == 0 && q.count % size == 0
 }
 
 // Is a run within one zone lawful there? Most runs are such.
-fn lone_valid(b: &[u8], p: Places, q: Pointer) -> bool
-    requires layout { Layout p (length b.now) }
-    requires inside { Inside p.zones q.start.0 q.count }
+fn lone_valid(b: &Books<'_>, q: Pointer) -> bool
+    requires inside { Inside b.now.places.zones q.start.0 q.count }
     requires lone { Lone q.start.0 q.count }
-    ensures { Says result (Part (view_of p b.now) q.start.0 q.count (zone_of q.start.0)) }
+    ensures { Says result (Part (books_view b.now) q.start.0 q.count (zone_of q.start.0)) }
 {
-    let t = zone_entry(b, p, zone_of(q.start)).ztype;
-    if !is_data_type(t) {
-        return false;
-    }
-    lone_whole(q, block_sectors(t))
+    let t = zone_entry(b, zone_of(q.start)).ztype;
+    is_data_type(t) && lone_whole(q, block_sectors(t))
 }
 
 // Is its part in each zone that it meets?
-fn parts_valid(b: &[u8], p: Places, q: Pointer) -> bool
-    requires layout { Layout p (length b.now) }
-    requires inside { Inside p.zones q.start.0 q.count }
-    ensures { Says result (Parts (view_of p b.now) q.start.0 q.count) }
+fn parts_valid(b: &Books<'_>, q: Pointer) -> bool
+    requires inside { Inside b.now.places.zones q.start.0 q.count }
+    ensures { Says result (Parts (books_view b.now) q.start.0 q.count) }
 {
     let end = zone_of(Sector(q.start.0 + q.count - 1)).0 + 1;
-    let mut z = zone_of(q.start).0;
-    while z < end {
-        if !part_valid(b, p, q, Zone(z)) {
-            return false;
-        }
-        z += 1;
-    }
-    true
+    (zone_of(q.start).0..end).all(|z| part_valid(b, q, Zone(z)))
 }
 
 // Is the run lawful?
-fn run_valid(b: &[u8], p: Places, q: Pointer) -> bool
-    requires { Layout p (length b.now) }
-    ensures { Says result (Run (view_of p b.now) q.start.0 q.count) }
+fn run_valid(b: &Books<'_>, q: Pointer) -> bool
+    ensures { Says result (Run (books_view b.now) q.start.0 q.count) }
 {
     if q.count < 1 {
         return false;
@@ -137,7 +106,7 @@ fn run_valid(b: &[u8], p: Places, q: Pointer) -> bool
     if q.start.0 < ZONE {
         return false;
     }
-    let end = ZONE * (p.zones - 1);
+    let end = ZONE * (b.places.zones - 1);
     if q.start.0 > end {
         return false;
     }
@@ -145,46 +114,39 @@ fn run_valid(b: &[u8], p: Places, q: Pointer) -> bool
         return false;
     }
     if zone_of(Sector(q.start.0 + q.count - 1)).0 == zone_of(q.start).0 {
-        return lone_valid(b, p, q);
+        return lone_valid(b, q);
     }
-    parts_valid(b, p, q)
+    parts_valid(b, q)
 }
 
 // Are a pointer's six bytes all zero?
 pub fn unused(q: Pointer) -> bool
     ensures { Says result (q.start.0 + q.count ≡ 0) }
 {
-    if q.start.0 != 0 {
-        return false;
-    }
-    q.count == 0
+    q.start.0 == 0 && q.count == 0
 }
 
 // Do the used ones of the n pointers from byte `at` of the table on come first, and are they lawful?
-fn slots_valid(b: &[u8], p: Places, t: &[u8], at: usize, n: usize) -> bool
-    requires layout { Layout p (length b.now) }
+fn slots_valid(b: &Books<'_>, t: &[u8], at: usize, n: usize) -> bool
     requires t_len { length t.now ≡ 128 }
     requires n_bound { at + 6 * n ≤ 124 }
-    ensures { Says result (SlotsLaw (view_of p b.now) t.now at n) }
+    ensures { Says result (SlotsLaw (books_view b.now) t.now at n) }
 {
-    let mut j: usize = 0;
-    while j < n {
+    for j in 0..n {
         let q = index::pointer_at(t, at + index::POINTER * j);
         if unused(q) {
             return bytes_all(t, at + index::POINTER * j, index::POINTER * (n - j), 0);
         }
-        if !run_valid(b, p, q) {
+        if !run_valid(b, q) {
             return false;
         }
-        j += 1;
     }
     true
 }
 
 // Is a header's run lawful?
-fn header_run_valid(b: &[u8], p: Places, q: Pointer) -> bool
-    requires { Layout p (length b.now) }
-    ensures { Says result (HeaderRun (view_of p b.now) q.start.0 q.count) }
+fn header_run_valid(b: &Books<'_>, q: Pointer) -> bool
+    ensures { Says result (HeaderRun (books_view b.now) q.start.0 q.count) }
 {
     if q.count < 1 {
         return false;
@@ -195,7 +157,7 @@ fn header_run_valid(b: &[u8], p: Places, q: Pointer) -> bool
     if q.start.0 < ZONE {
         return false;
     }
-    let end = ZONE * (p.zones - 1);
+    let end = ZONE * (b.places.zones - 1);
     if q.start.0 > end {
         return false;
     }
@@ -206,63 +168,39 @@ fn header_run_valid(b: &[u8], p: Places, q: Pointer) -> bool
     if zone_of(Sector(q.start.0 + (q.count - 1))).0 != z.0 {
         return false;
     }
-    zone_entry(b, p, z).ztype == HEADER_TYPE
+    zone_entry(b, z).ztype == HEADER_TYPE
 }
 
 // Is a parent's header pointer zero, or a lawful run?
-fn header_valid(b: &[u8], p: Places, t: &[u8]) -> bool
-    requires layout { Layout p (length b.now) }
+fn header_valid(b: &Books<'_>, t: &[u8]) -> bool
     requires t_len { length t.now ≡ 128 }
-    ensures { Says result (HeaderLaw (view_of p b.now) t.now) }
+    ensures { Says result (HeaderLaw (books_view b.now) t.now) }
 {
     let q = index::pointer_at(t, index::HEADER);
-    if unused(q) {
-        return true;
-    }
-    header_run_valid(b, p, q)
+    unused(q) || header_run_valid(b, q)
 }
 
 // Has a parent a first pointer, and a lawful header pointer?
-fn heads_valid(b: &[u8], p: Places, t: &[u8]) -> bool
-    requires layout { Layout p (length b.now) }
+fn heads_valid(b: &Books<'_>, t: &[u8]) -> bool
     requires t_len { length t.now ≡ 128 }
-    ensures { Says result (Heads (view_of p b.now) t.now) }
+    ensures { Says result (Heads (books_view b.now) t.now) }
 {
-    if unused(index::pointer_at(t, index::PARENT_POINTERS)) {
-        return false;
-    }
-    header_valid(b, p, t)
+    !unused(index::pointer_at(t, index::PARENT_POINTERS)) && header_valid(b, t)
 }
 
 // Are the pointers of index table i lawful?
-fn table_valid(b: &[u8], p: Places, i: Index) -> bool
-    requires layout { Layout p (length b.now) }
-    requires le_i { (1 ≤ i.0) × (i.0 ≤ p.indexes) }
-    ensures { Says result (PointerLaw (view_of p b.now) i.0) }
+fn table_valid(b: &Books<'_>, i: Index) -> bool
+    requires le_i { (1 ≤ i.0) × (i.0 ≤ b.now.places.indexes) }
+    ensures { Says result (PointerLaw (books_view b.now) i.0) }
 {
-    let t = index::table(b, p, i);
+    let t = index::table(b, i);
     let at = index::base(i, t);
     let n = index::slots(i, t);
-    if !slots_valid(b, p, t, at, n) {
-        return false;
-    }
-    if !is_parent(decode(b, p, i)) {
-        return true;
-    }
-    heads_valid(b, p, t)
+    slots_valid(b, t, at, n) && (!is_parent(decode(b, i)) || heads_valid(b, t))
 }
 
-pub fn rule6(b: &[u8], p: Places) -> Finding
-    requires { Layout p (length b.now) }
-    ensures { Finds (PointerLaw (view_of p b.now)) 1 (p.indexes + 1) result }
+pub fn rule6(b: &Books<'_>) -> Option<u32>
+    ensures { Finds (PointerLaw (books_view b.now)) 1 (b.now.places.indexes + 1) result }
 {
-    let indexes = p.indexes;
-    let mut i: u32 = 1;
-    while i <= indexes {
-        if !table_valid(b, p, Index(i)) {
-            return Finding::Fails(i);
-        }
-        i += 1;
-    }
-    Finding::Holds
+    (1..b.places.indexes + 1).find(|i| !table_valid(b, Index(*i)))
 }

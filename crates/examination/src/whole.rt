@@ -32,15 +32,7 @@ fn each_whole(s: &[u8], base: usize, from: Sector, size: u32) -> bool
     requires block { Block size }
     ensures { Says result (Whole (bit_at s.now base) from.0 size) }
 {
-    let count = ZONE / size;
-    let mut i: u32 = 0;
-    while i < count {
-        if !block_whole(s, base, Sector(from.0 + i * size), size) {
-            return false;
-        }
-        i += 1;
-    }
-    true
+    (0..ZONE / size).all(|i| block_whole(s, base, Sector(from.0 + i * size), size))
 }
 
 // Are the first four bits of a byte the same, and the last four: is it 0, 15, 240 or 255?
@@ -59,14 +51,7 @@ fn fours_whole(s: &[u8], base: usize, from: Sector) -> bool
     requires from_value { from.0 % 8 ≡ 0 }
     ensures { Says result (Whole (bit_at s.now base) from.0 4) }
 {
-    let mut i: u32 = 0;
-    while i < BYTES {
-        if !two_whole(s, base, Sector(from.0 + 8 * i)) {
-            return false;
-        }
-        i += 1;
-    }
-    true
+    (0..BYTES).all(|i| two_whole(s, base, Sector(from.0 + 8 * i)))
 }
 
 // Blocks of `size` sectors, of the zone whose first sector is `from`.

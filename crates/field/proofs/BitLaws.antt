@@ -1,8 +1,8 @@
 -- The laws of bits: of a byte, and of a table of bits.
 use mathlib.Core.Path.{◌≡◌, sym, ap, ◌∙◌, subst}
 use mathlib.Core.Logic.{◌≢◌, ◌⊎◌, inl, inr}
-use Prim.Native.Nat.{ℕ, zero, suc, ◌+◌, ◌-◌, ◌*◌, ◌/◌, ◌%◌, ◌^◌, ◌≤◌, ◌<◌}
-use native.Mathlib.Nat.{mod-lt, div-add-mod', div-lt_iff_lt-mul, div-div-eq-div-mul, add-mul-mod_self_right, add-mul-div_right, mul_assoc, mul_comm, add_assoc, add-mul, zero-mul, one-mul}
+use Prim.Native.Nat.{ℕ, ◌+◌, ◌-◌, ◌*◌, ◌/◌, ◌%◌, ◌^◌, ◌≤◌, ◌<◌}
+use native.Mathlib.Nat.{mod-lt, div-add-mod', div-lt_iff_lt-mul, div-div-eq-div-mul, add-mul-mod_self_right, add-mul-div_right, mul_assoc, mul_comm, add_assoc, add-mul}
 use native.Mathlib.Omega.{arith}
 use native.Mathlib.Decide.{ℕ_discrete, dec_lt}
 use mathlib.Core.List.{List}
@@ -101,11 +101,6 @@ with_sum x k v = omega (arith, cut x (2 ^ k) (pow_pos k))
 pub bit_part : (x k : ℕ) → bit_of x k * 2 ^ k ≤ x
 unfolding bit_of
 bit_part x k = omega (arith, cut x (2 ^ k) (pow_pos k))
-
-pub bit_weight : (v p : ℕ) → v < 2 → v * p ≤ p
-bit_weight zero p h = omega (arith, zero-mul p)
-bit_weight (suc zero) p h = omega (arith, one-mul p)
-bit_weight (suc (suc v)) p h = absurd (omega arith)
 
 -- ---- a table of bits
 

@@ -1,11 +1,15 @@
 -- Runs of whole bytes: all bits by all bytes, and the set bits counted.
-use mathlib.Core.Path.{◌≡◌}
+use mathlib.Core.Path.{◌≡◌, refl}
 use mathlib.Core.Bool.{Bool}
-use Prim.Native.Nat.{ℕ, ◌+◌, ◌*◌, ◌/◌, ◌%◌, ◌≤◌, ◌<◌}
+use Prim.Native.Nat.{ℕ, zero, suc, ◌+◌, ◌*◌, ◌/◌, ◌%◌, ◌≤◌, ◌<◌}
 use native.Mathlib.Omega.{arith}
 use mathlib.Core.List.{List}
 use lib.Count.{ones}
-use lib.ListN.{get_or}
+use lib.ListN.{get_or, length, take, drop, length-drop}
+use lib.Seq.{get_or-drop}
+use native.Mathlib.Numerals.{add-one}
+use Rattle.std.specs.List.{sum_by}
+use Rattle.std.proofs.lemmas.List.Sums.{sum_by_more}
 use Rattle.field.specs.Says.{Says}
 use Rattle.field.specs.Sum.{sum_to}
 use Rattle.field.specs.Parts.{AllBytes}
@@ -33,25 +37,24 @@ module _ (b : List ℕ) (base from count v : ℕ) (whole : from % 8 + count % 8 
 -- ---- counted
 
 module _ (b : List ℕ) (base from : ℕ) where
-  pub count_none : 0 ≡ count_bits b base from 0
-  unfolding count_bits sum_to
-  count_none = omega arith
-
-  pub count_more : (i n x : ℕ) → from % 8 ≡ 0 → n ≡ count_bits b base from (8 * i) → x ≡ get_or b (base + from / 8 + i) 0 → x < 256 → n + ones x ≡ count_bits b base from (8 * (i + 1))
-  count_more i n x whole h is small =
+  more : (i x : ℕ) → from % 8 ≡ 0 → x ≡ get_or b (base + from / 8 + i) 0 → x < 256 → count_bits b base from (8 * i) + ones x ≡ count_bits b base from (8 * (i + 1))
+  more i x whole is small =
       let e : base + (from + 8 * i) / 8 ≡ base + from / 8 + i = omega arith in
       let q : 8 * i + 8 ≡ 8 * (i + 1) = omega arith in
       let m : ones x ≡ count_bits b base (from + 8 * i) 8 = rw (is, ← e) (count_byte b base (from + 8 * i) (omega arith) (rw (is, ← e) at small)) in
-      rw q at (count_next b base from (8 * i) 8 n (ones x) h m)
+      rw q at (count_next b base from (8 * i) 8 _ (ones x) refl m)
 
-  pub count_fits : (m i n x : ℕ) → i < m → from + 8 * m ≤ 262144 → from % 8 ≡ 0 → n ≡ count_bits b base from (8 * i) → x ≡ get_or b (base + from / 8 + i) 0 → x < 256 → n + ones x ≤ 262144
-  count_fits m i n x l most whole h is small = omega (arith, count_more i n x whole h is small, count_le b base from (8 * (i + 1)))
+  sum_counted : (m : ℕ) → from % 8 ≡ 0 → base + from / 8 + m ≤ length b → ((j : ℕ) → get_or b j 0 < 256) → sum_by ones (take m (drop (base + from / 8) b)) ≡ count_bits b base from (8 * m)
+  unfolding count_bits sum_to
+  sum_counted zero whole h small = refl
+  sum_counted (suc m) whole h small =
+      let bytes : List ℕ = drop (base + from / 8) b in
+      rw (← add-one m, sum_by_more ones (drop (base + from / 8) b) m 0 (omega (arith, length-drop (base + from / 8) b)), sum_counted m whole (omega arith) small)
+      (more m _ whole (get_or-drop (base + from / 8) b m 0) (rw (get_or-drop (base + from / 8) b m 0) (small _)))
 
-  pub count_all : (m i n : ℕ) → n ≡ count_bits b base from (8 * i) → i ≤ m → m ≤ i → n ≡ count_bits b base from (8 * m)
-  count_all m i n h l g = let e : i ≡ m = omega arith in rw e at h
-
-  pub count_small : (m i n : ℕ) → n ≡ count_bits b base from (8 * i) → i ≤ m → n ≤ 8 * m
-  count_small m i n h l = omega (arith, count_le b base from (8 * i))
-
-  pub count_whole_bytes : (count r : ℕ) → from % 8 + count % 8 ≡ 0 → r ≡ count_bits b base from (8 * (count / 8)) → r ≤ 8 * (count / 8) → (r ≡ count_bits b base from count) × (r ≤ count)
-  count_whole_bytes count r whole h l = let e : 8 * (count / 8) ≡ count = omega arith in (rw e at h, omega arith)
+  -- the part of m bytes, as a slice of it is written
+  pub part_counted : (m n : ℕ) → m ≡ n → from % 8 ≡ 0 → base + from / 8 + n ≤ length b → ((j : ℕ) → get_or b j 0 < 256)
+      → (sum_by ones (take m (drop (base + from / 8) b)) ≡ count_bits b base from (8 * n)) × (sum_by ones (take m (drop (base + from / 8) b)) ≤ 8 * n)
+  part_counted m n e whole h small =
+      let s : sum_by ones (take m (drop (base + from / 8) b)) ≡ count_bits b base from (8 * n) = rw e (sum_counted n whole h small) in
+      (s, omega (arith, s, count_le b base from (8 * n)))

@@ -2,11 +2,15 @@
 use mathlib.Core.Path.{◌≡◌, refl, sym, ap, ◌∙◌}
 use mathlib.Core.Logic.{inl, inr}
 use Prim.Native.Nat.{ℕ, zero, suc, ◌+◌, ◌*◌, ◌/◌, ◌%◌, ◌≤◌, ◌<◌}
+use native.Mathlib.Numerals.{add-one}
 use native.Mathlib.Omega.{arith}
 use native.Mathlib.Nat.{div-div-eq-div-mul, div-add-mod', add_assoc}
-use mathlib.Core.List.{List}
+use mathlib.Core.List.{List, append_assoc}
 use lib.ListN.{get_or, set, length, take, drop, replicate, length-set}
-use lib.Seq.{get_or-set_same, get_or-set_other, get_or-take, get_or-drop}
+use borrow.Rule.Slice.PartMut.{put_mid}
+use Rattle.std.proofs.Common.{w16, w32}
+use Rattle.std.specs.Int.{to_be_bytes}
+use lib.Seq.{sets, sets-eq, drop-drop, get_or-set_same, get_or-set_other, get_or-take, get_or-drop}
 use Rattle.field.specs.Numbers.{u16_at, u32_at, put_u16, put_u32}
 use Rattle.field.specs.Kept.{Kept, Apart}
 use Rattle.field.proofs.Frames.{kept_trans, kept_wider, kept_set}
@@ -86,6 +90,25 @@ u32_put_same b o v h =
     let e₃ : get_or b₄ (o + 3) 0 ≡ v % 256
     = get_or-set_same b₃ (o + 3) _ 0 (simp length-set (omega arith)) in
     rw (e₀, e₁, e₂, e₃, word v)
+
+-- ---- numbers laid over a part as bytes
+
+put_sets : (b : List ℕ) (o k : ℕ) (zs ys : List ℕ) → zs ≡ ys → k ≡ length ys → o + length ys ≤ length b → put_mid o k b zs ≡ sets b o ys
+put_sets b o k zs ys e n h = rw (e, n, drop-drop, ← append_assoc) (sym (sets-eq ys b o h))
+
+pub u16_laid : (b : List ℕ) (o k v : ℕ) (zs : List ℕ) → zs ≡ to_be_bytes w16 v → k ≡ 2 → o + 2 ≤ length b → v < 65536 → put_mid o k b zs ≡ put_u16 b o v
+unfolding put_u16
+u16_laid b o k v zs e n h l =
+    let d : v / 256 % 256 ≡ v / 256 = omega arith in
+    put_sets b o k zs (to_be_bytes w16 v) e n h ∙ rw (d, add-one o)
+
+pub u32_laid : (b : List ℕ) (o k v : ℕ) (zs : List ℕ) → zs ≡ to_be_bytes w32 v → k ≡ 4 → o + 4 ≤ length b → v < 4294967296 → put_mid o k b zs ≡ put_u32 b o v
+unfolding put_u32
+u32_laid b o k v zs e n h l =
+    let d : v / 16777216 % 256 ≡ v / 16777216 = omega arith in
+    let second : o + 2 ≡ suc (suc o) = omega arith in
+    let third : o + 3 ≡ suc (suc (suc o)) = omega arith in
+    put_sets b o k zs (to_be_bytes w32 v) e n h ∙ rw (d, add-one o, second, third)
 
 -- ---- reads in a part, and in nulls
 

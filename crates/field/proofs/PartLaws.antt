@@ -1,21 +1,32 @@
 -- The laws of parts that are laid over.
-use mathlib.Core.Path.{◌≡◌, refl, sym, ap, ◌∙◌}
-use mathlib.Core.Logic.{◌⊎◌, inl, inr, ⊎_elim}
-use Prim.Native.Nat.{ℕ, ◌+◌, ◌-◌, ◌*◌, ◌≤◌, ◌<◌}
-use native.Mathlib.Nat.{add-zero}
-use native.Mathlib.Decide.{ℕ_discrete, dec_lt}
+use mathlib.Core.Path.{◌≡◌, refl, sym, ap, ap₂, ◌∙◌}
+use mathlib.Core.Logic.{⊎_elim}
+use Prim.Native.Nat.{ℕ, zero, suc, ◌+◌, ◌-◌, ◌*◌, ◌≤◌, ◌<◌}
 use lib.Dec.{eqb}
+use mathlib.Core.Bool.{Bool, true, false, ◌&&◌}
+use borrow.Author.Tests.{eqb-true, eq-eqb}
+use Rattle.std.specs.Cmp.Lexicographic.{pointwise}
+use Rattle.std.specs.List.{list_all}
+use Rattle.std.specs.Simd.{first_chunks}
+use Rattle.std.proofs.lemmas.List.{take-append-drop, get_or_default}
+use Rattle.std.proofs.lemmas.List.Sums.{AllPass-from_list_all, list_all-from_AllPass}
+use Rattle.std.proofs.lemmas.List.Folds.{list_all-append}
 use native.Mathlib.Numerals.{add-one}
 use native.Mathlib.Omega.{arith}
-use mathlib.Core.List.{List, ◌++◌, append_assoc}
-use lib.ListN.{get_or, set, length, take, drop, replicate, length-drop, length-append, length-replicate, get_or-replicate, get_or-append}
-use lib.Seq.{paste, paste-suc, ext_get_or, take-length, get_or-take, get_or-drop, get_or-append-add, length-take-le, drop_at, take_at}
+use mathlib.Core.List.{List, [], ◌∷◌, ◌++◌, append_assoc}
+use lib.ListN.{get_or, set, length, take, drop, replicate, length-drop, length-append, get_or-append}
+use borrow.Rule.Slice.PartMut.{put_mid}
+use lib.Seq.{drop-drop, take-add, paste, paste-suc, ext_get_or, take-length, get_or-take, get_or-drop, get_or-append-add, length-take-le, drop_at, take_at}
 use Rattle.field.specs.Says.{Says}
-use Rattle.field.specs.Numbers.{u32_at}
 use Rattle.field.specs.Parts.{over, AllBytes}
 use Rattle.field.specs.Kept.{Kept}
-use Rattle.field.proofs.Tests.{says_eq}
+use Rattle.field.proofs.Tests.{says_test}
 use Rattle.field.proofs.NumberLaws.{get_d_part}
+
+-- a part that was lent comes back as ys
+pub over_mid : (xs : List ℕ) (a k : ℕ) (zs ys : List ℕ) → zs ≡ ys → k ≡ length ys → put_mid a k xs zs ≡ over xs a ys
+unfolding over
+over_mid xs a k zs ys e n = rw (e, n, drop-drop)
 
 -- the kit's copy of all of ys
 pub over_paste : (xs : List ℕ) (a : ℕ) (ys : List ℕ) → paste xs a ys (length ys) ≡ over xs a ys
@@ -48,20 +59,13 @@ module _ (xs : List ℕ) (a : ℕ) (ys : List ℕ) (fits : a + length ys ≤ len
   unfolding over
   over_part = ap (take (length ys)) (drop_at (take a xs) (ys ++ drop (a + length ys) xs) a front) ∙ take_at ys (drop (a + length ys) xs) (length ys) refl
 
--- ---- the loop that copies: a turn, and the end
+-- ---- a loop that copies byte by byte: a turn, and the end
 
 pub copy_more : (d s x : List ℕ) (at i : ℕ) → x ≡ paste d at s i → at + i < length d → i < length s → set x (at + i) (get_or s i 0) ≡ paste d at s (i + 1)
 copy_more d s x at i e h k = rw (add-one i) (ap (λ (y : List ℕ). set y (at + i) (get_or s i 0)) e ∙ paste-suc d at s i 0 h k)
 
 pub copy_end : (d s x : List ℕ) (at i : ℕ) → x ≡ paste d at s i → i ≤ length s → length s ≤ i → x ≡ over d at s
 copy_end d s x at i e h k = e ∙ ap (paste d at s) (let q : i ≡ length s = omega arith in q) ∙ over_paste d at s
-
-pub fill_again : (d x : List ℕ) (at n v i : ℕ) → x ≡ paste d at (replicate n v) i → at + n ≤ length d → i < n → set x (at + i) v ≡ paste d at (replicate n v) (i + 1)
-fill_again d x at n v i e h k =
-    ap (set x (at + i)) (sym (get_or-replicate n i v 0 k)) ∙ copy_more d (replicate n v) x at i e (omega arith) (omega (arith, length-replicate n v))
-
-pub fill_end : (d x : List ℕ) (at n v i : ℕ) → x ≡ paste d at (replicate n v) i → i ≤ n → n ≤ i → x ≡ over d at (replicate n v)
-fill_end d x at n v i e h k = copy_end d (replicate n v) x at i e (omega (arith, length-replicate n v)) (omega (arith, length-replicate n v))
 
 -- ---- a part is compared byte by byte
 
@@ -73,71 +77,51 @@ same_all s t at h all =
     let e : length (take (length t) (drop at s)) ≡ length t = length-take-le (length t) (drop at s) (omega (arith, length-drop at s)) in
     ext_get_or 0 (take (length t) (drop at s)) t e (λ k l. get_d_part s at (length t) k (omega (arith, e)) ∙ all k (omega (arith, e)))
 
--- ---- bytes that are all the same, four and eight at a time
-
--- the last digit of 256, and the rest
-last_digit : (a d c v : ℕ) → d < 256 → v < 256 → a * 256 + d ≡ c * 256 + v → (a ≡ c) × (d ≡ v)
-last_digit a d c v hd hv e =
-    elim (dec_lt a c) [
-      | yes l ↦ absurd (omega arith)
-      | no g ↦ elim (dec_lt c a) [ yes l ↦ absurd (omega arith) | no h ↦ (omega arith, omega arith) ]
-    ]
-
--- the number of four bytes is that of four times v exactly where each is v
-record Four (w x y z v : ℕ) : Type 0 where
-  pub first : w ≡ v
-  pub second : x ≡ v
-  pub third : y ≡ v
-  pub fourth : z ≡ v
-
-four_digits : (w x y z v : ℕ) → w < 256 → x < 256 → y < 256 → z < 256 → v < 256 → w * 16777216 + x * 65536 + y * 256 + z ≡ 16843009 * v → Four w x y z v
-four_digits w x y z v hw hx hy hz hv e =
-    let c₁ = last_digit (w * 65536 + x * 256 + y) z (v * 65536 + v * 256 + v) v hz hv (omega arith) in
-    let c₂ = last_digit (w * 256 + x) y (v * 256 + v) v hy hv (omega (arith, c₁.0)) in
-    let c₃ = last_digit w x v v hx hv (omega (arith, c₂.0)) in
-    record { first = c₃.0; second = c₃.1; third = c₂.1; fourth = c₁.1 }
-
-four_same : (b : List ℕ) (o v : ℕ) → v < 256 → ((j : ℕ) → get_or b j 0 < 256) → u32_at b o ≡ 16843009 * v → AllBytes b o 4 v
-unfolding u32_at
-four_same b o v hv small e k l =
-    let f = four_digits (get_or b o 0) (get_or b (o + 1) 0) (get_or b (o + 2) 0) (get_or b (o + 3) 0) v (small o) (small (o + 1)) (small (o + 2)) (small (o + 3)) hv e in
-    elim (ℕ_discrete k 0) [
-      | yes q ↦ rw (q, add-zero o) f.first
-      | no n0 ↦ elim (ℕ_discrete k 1) [
-        | yes q ↦ rw q f.second
-        | no n1 ↦ elim (ℕ_discrete k 2) [
-          | yes q ↦ rw q f.third
-          | no n2 ↦ (let q : k ≡ 3 = omega arith in rw q f.fourth)
-        ]
-      ]
-    ]
-
-same_four : (b : List ℕ) (o v : ℕ) → AllBytes b o 4 v → u32_at b o ≡ 16843009 * v
-unfolding u32_at
-same_four b o v h = omega (arith, rw (add-zero o) at (h 0 (omega arith)), h 1 (omega arith), h 2 (omega arith), h 3 (omega arith))
-
--- bytes after bytes
-pub all_behind : (b : List ℕ) (at i w v : ℕ) → AllBytes b at i v → AllBytes b (at + i) w v → AllBytes b at (i + w) v
-all_behind b at i w v h g k l =
-    elim (dec_lt k i) [
-      | yes lo ↦ h k lo
-      | no hi ↦ (let e : at + i + (k - i) ≡ at + k = omega arith in rw e at (g (k - i) (omega arith)))
-    ]
+-- ---- bytes that are all the same, eight at a time
 
 pub all_within : (b : List ℕ) (at i w n v : ℕ) → i + w ≤ n → AllBytes b at n v → AllBytes b (at + i) w v
 all_within b at i w n v h all k l = let e : at + (i + k) ≡ at + i + k = omega arith in rw e at (all (i + k) (omega arith))
 
-module _ (b : List ℕ) (at w v : ℕ) where
-  pub one_says : (x : ℕ) → w ≡ 1 → x ≡ get_or b at 0 → Says (eqb x v) (AllBytes b at w v)
-  one_says x e h = rw e (says_eq x v (λ q k l. ap (λ (j : ℕ). get_or b j 0) (let f : at + k ≡ at = omega arith in f) ∙ sym h ∙ q) (λ all. h ∙ sym (ap (λ (j : ℕ). get_or b j 0) (add-zero at)) ∙ all 0 (omega arith)))
+-- a test of the bytes, and of eight of them
+abbrev pub is : ℕ → ℕ → Bool
+is v x = eqb x v
 
-  pub first_four : (x : ℕ) → (w ≡ 1) ⊎ (w ≡ 8) → (w ≡ 1 → ⊥) → x ≡ u32_at b at → (x ≡ 16843009 * v → ⊥) → AllBytes b at w v → ⊥
-  first_four x (inl one) ne h q all = ne one
-  first_four x (inr eight) ne h q all = q (h ∙ same_four b at v (λ k l. all k (omega arith)))
+abbrev pub are : ℕ → List ℕ → Bool
+are v w = pointwise eqb w (replicate 8 v)
 
-  pub both_fours : (x y : ℕ) → (w ≡ 1) ⊎ (w ≡ 8) → (w ≡ 1 → ⊥) → v < 256 → ((j : ℕ) → get_or b j 0 < 256) → x ≡ u32_at b at → x ≡ 16843009 * v → y ≡ u32_at b (at + 4) → Says (eqb y (16843009 * v)) (AllBytes b at w v)
-  both_fours x y (inl one) ne hv small h q g = absurd (ne one)
-  both_fours x y (inr eight) ne hv small h q g =
-      rw eight (says_eq y (16843009 * v)
-      (λ e. all_behind b at 4 4 v (four_same b at v hv small (sym h ∙ q)) (four_same b (at + 4) v hv small (sym g ∙ e)))
-      (λ all. g ∙ same_four b (at + 4) v (all_within b at 4 4 8 v (omega arith) all)))
+list_says : (s : List ℕ) (at n v : ℕ) → at + n ≤ length s → Says (list_all (is v) (take n (drop at s))) (AllBytes s at n v)
+list_says s at n v h =
+    let long : length (take n (drop at s)) ≡ n = length-take-le n (drop at s) (omega (arith, length-drop at s)) in
+    says_test (list_all (is v) (take n (drop at s)))
+    (λ e k l. sym (get_d_part s at n k l) ∙ eqb-true _ v (AllPass-from_list_all (is v) (take n (drop at s)) e k 0 (omega arith)))
+    (λ all. list_all-from_AllPass (is v) (take n (drop at s)) (λ k d l. eq-eqb _ v (get_or_default (take n (drop at s)) k d 0 l ∙ get_d_part s at n k (omega arith) ∙ all k (omega arith))))
+
+run_are : (v n : ℕ) (xs : List ℕ) → n ≤ length xs → pointwise eqb (take n xs) (replicate n v) ≡ list_all (is v) (take n xs)
+run_are v zero xs h = refl
+run_are v (suc n) [] h = absurd (omega (arith, h))
+run_are v (suc n) (x ∷ xs) h = ap (λ r. eqb x v && r) (run_are v n xs (omega arith))
+
+eights_are : (v k : ℕ) (xs : List ℕ) → k * 8 ≤ length xs → list_all (are v) (first_chunks 8 k xs) ≡ list_all (is v) (take (k * 8) xs)
+eights_are v zero xs h = refl
+eights_are v (suc k) xs h =
+    let e : suc k * 8 ≡ 8 + k * 8 = omega arith in
+    rw (e, take-add 8 (k * 8) xs, list_all-append (is v) (take 8 xs) (take (k * 8) (drop 8 xs)))
+    (ap₂ (λ p q. p && q) (run_are v 8 xs (omega arith)) (eights_are v k (drop 8 xs) (omega (arith, length-drop 8 xs))))
+
+-- the whole is so many eights, and what is left of it
+both_are : (v k : ℕ) (xs : List ℕ) → k * 8 ≤ length xs → list_all (is v) xs ≡ (list_all (are v) (first_chunks 8 k xs) && list_all (is v) (drop (k * 8) xs))
+both_are v k xs h =
+    ap (list_all (is v)) (sym (take-append-drop (k * 8) xs)) ∙ list_all-append (is v) (take (k * 8) xs) (drop (k * 8) xs)
+    ∙ ap (λ r. r && list_all (is v) (drop (k * 8) xs)) (sym (eights_are v k xs h))
+
+module _ (s : List ℕ) (at n v : ℕ) (fits : at + n ≤ length s) (part : List ℕ) (is_part : part ≡ take n (drop at s)) where
+  whole : (k : ℕ) → k * 8 ≤ length part → Says (list_all (are v) (first_chunks 8 k part) && list_all (is v) (drop (k * 8) part)) (AllBytes s at n v)
+  whole k h = rw (← both_are v k part h, is_part) (list_says s at n v fits)
+
+  -- the eights are all v, and what is left decides
+  pub rest_says : (k : ℕ) (e r : Bool) → k * 8 ≤ length part → e ≡ list_all (are v) (first_chunks 8 k part) → e ≡ true → r ≡ list_all (is v) (drop (k * 8) part) → Says r (AllBytes s at n v)
+  rest_says k e r h all t left = rw left (rw (sym all ∙ t) at (whole k h))
+
+  -- they are not
+  pub eights_say : (k : ℕ) (e : Bool) → k * 8 ≤ length part → e ≡ list_all (are v) (first_chunks 8 k part) → e ≡ false → Says e (AllBytes s at n v)
+  eights_say k e h all f = rw f (rw (sym all ∙ f) at (whole k h))

@@ -1,6 +1,6 @@
 -- The laws of runs of bits.
 use mathlib.Core.Path.{◌≡◌, refl, sym, ap, ap₂, ◌∙◌}
-use mathlib.Core.Logic.{◌⊎◌, ◌≢◌, inl, inr, ⊎_elim}
+use mathlib.Core.Logic.{◌⊎◌, inl, inr, ⊎_elim}
 use Prim.Native.Nat.{ℕ, zero, suc, ◌+◌, ◌-◌, ◌*◌, ◌/◌, ◌%◌, ◌^◌, ◌≤◌, ◌<◌}
 use native.Mathlib.Nat.{le_of_suc-le-suc, not-suc-le-zero, eq-or-lt_of_le, add-zero, add-suc, add_assoc, div-div-eq-div-mul, mod-eq_of_lt, zero-div, div-one}
 use native.Mathlib.Numerals.{add-one}
@@ -17,7 +17,7 @@ use Rattle.field.specs.Says.{Says}
 use Rattle.field.specs.Sum.{sum_to}
 use Rattle.field.specs.Bits.{bit_of, bit_at, put_bit}
 use Rattle.field.specs.Kept.{Kept}
-use Rattle.field.specs.Runs.{Room, Width, AllBits, SetAhead, set_bits, count_bits}
+use Rattle.field.specs.Runs.{Room, Width, AllBits, set_bits, count_bits}
 use Rattle.field.proofs.Frames.{kept_refl, kept_trans, kept_wider}
 use Rattle.field.proofs.Tests.{says_eq}
 use Rattle.field.proofs.Sums.{sum_same, sum_cut, sum_le}
@@ -221,13 +221,3 @@ set_next b s t base from i w v h g = g ∙ ap (λ (x : List ℕ). set_bits x bas
 
 pub count_next : (b : List ℕ) (base from i w n m : ℕ) → n ≡ count_bits b base from i → m ≡ count_bits b base (from + i) w → n + m ≡ count_bits b base from (i + w)
 count_next b base from i w n m h g = omega (arith, count_cut b base from i w)
-
--- ---- set bits that are passed over at once
-
-module _ (b : List ℕ) (base at left : ℕ) where
-  pub ahead_some : (w : ℕ) → 0 < w → (w ≤ left) × AllBits b base at w 1 → SetAhead b base at left w
-  ahead_some w l h = record { few = h.0; set = h.1; clear = λ e. absurd (omega arith) }
-
-  -- bit `at` alone
-  pub ahead_one : (x : ℕ) → 0 < left → x ≡ bit_at b base at → x < 2 → x ≢ 0 → SetAhead b base at left 1
-  ahead_one x l h small n = ahead_some 1 (omega arith) (l, all_one b base at 1 x h (omega arith))

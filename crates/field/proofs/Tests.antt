@@ -1,10 +1,10 @@
 -- What a test that says whether P holds is good for, on each way on from it.
-use mathlib.Core.Path.{◌≡◌, refl}
+use mathlib.Core.Path.{◌≡◌, refl, sym}
 use mathlib.Core.Bool.{Bool, true, false, not}
 use Prim.Native.Nat.{ℕ}
 use native.Mathlib.Omega.{arith}
 use lib.Dec.{eqb}
-use borrow.Author.Tests.{eqb-true, eqb-false, not-true, not-false}
+use borrow.Author.Tests.{eqb-true, eq-eqb, not-true, not-false}
 use Rattle.field.specs.Says.{Says}
 
 -- nothing is true and false
@@ -31,10 +31,11 @@ pub says_map : {P Q : Type 0} (r : Bool) → (P → Q) → (Q → P) → Says r 
 says_map true f g s = f s
 says_map false f g s = λ q. s (g q)
 
+-- a test that is true exactly where P holds
+pub says_test : {P : Type 0} (r : Bool) → (r ≡ true → P) → (P → r ≡ true) → Says r P
+says_test true f g = f refl
+says_test false f g = λ p. no_true (sym (g p))
+
 -- a test of two numbers
 pub says_eq : {P : Type 0} (a b : ℕ) → (a ≡ b → P) → (P → a ≡ b) → Says (eqb a b) P
-says_eq {P} a b f g = go (eqb a b) refl
-  where
-    go : (t : Bool) → eqb a b ≡ t → Says t P
-    go true e = f (eqb-true a b e)
-    go false e = λ p. eqb-false a b e (g p)
+says_eq a b f g = says_test (eqb a b) (λ e. f (eqb-true a b e)) (λ p. eq-eqb a b (g p))

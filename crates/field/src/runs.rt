@@ -4,7 +4,6 @@ ghost use Rattle.field.specs.Says.{Says};
 ghost use Rattle.field.specs.Runs.{Room, Step, Width, AllBits, SetAhead, set_bits, count_bits};
 
 use crate::bits::{get_bit, put_bit};
-use crate::numbers::wide;
 use crate::parts::bytes_all;
 
 // How many bits are next worked on at once: a whole byte's, else one.
@@ -21,6 +20,7 @@ fn step(at: usize, left: usize) -> usize
     8
 }
 
+#[tactic(auto, using(crate::proofs::RunLaws::test_whole, crate::proofs::RunLaws::test_one))]
 fn test_step(s: &[u8], base: usize, at: usize, w: usize, v: u32) -> bool
     requires room { Room (length s.now) base at w }
     requires width { Width at w }
@@ -28,11 +28,12 @@ fn test_step(s: &[u8], base: usize, at: usize, w: usize, v: u32) -> bool
     ensures { Says result (AllBits s.now base at w v) }
 {
     if w == 8 {
-        return wide(s[base + at / 8]) == 255 * v;
+        return s[base + at / 8] == (255 * v) as u8;
     }
     get_bit(s, base, at) == v
 }
 
+#[tactic(auto, using(crate::proofs::RunLaws::set_whole, crate::proofs::RunLaws::set_one))]
 fn set_step(s: &mut [u8], base: usize, at: usize, w: usize, v: u32)
     requires room { Room (length s.old) base at w }
     requires width { Width at w }
@@ -46,13 +47,14 @@ fn set_step(s: &mut [u8], base: usize, at: usize, w: usize, v: u32)
     put_bit(s, base, at, v);
 }
 
+#[tactic(auto, using(crate::proofs::RunLaws::count_whole, crate::proofs::RunLaws::count_single))]
 fn count_step(s: &[u8], base: usize, at: usize, w: usize) -> u32
     requires room { Room (length s.now) base at w }
     requires width { Width at w }
     ensures { result ≡ count_bits s.now base at w }
 {
     if w == 8 {
-        return u32::count_ones(wide(s[base + at / 8]));
+        return s[base + at / 8].count_ones();
     }
     get_bit(s, base, at)
 }
@@ -64,6 +66,7 @@ fn bits_each(s: &[u8], base: usize, from: usize, count: usize, v: u32) -> bool
     ensures { Says result (AllBits s.now base from count v) }
 {
     let mut i: usize = 0;
+    // A step passes over a whole byte's bits or over one, so no range has them.
     while i < count {
         let w = step(from + i, count - i);
         if !test_step(s, base, from + i, w, v) {
@@ -125,6 +128,7 @@ pub fn set_bits(s: &mut [u8], base: usize, from: usize, count: usize, v: u32)
     ensures { s.new ≡ set_bits s.old base from count v }
 {
     let mut i: usize = 0;
+    // A step passes over a whole byte's bits or over one, so no range has them.
     while i < count {
         let w = step(from + i, count - i);
         set_step(s, base, from + i, w, v);
@@ -139,6 +143,7 @@ fn count_each(s: &[u8], base: usize, from: usize, count: usize) -> u32
 {
     let mut n: u32 = 0;
     let mut i: usize = 0;
+    // A step passes over a whole byte's bits or over one, so no range has them.
     while i < count {
         let w = step(from + i, count - i);
         n += count_step(s, base, from + i, w);
@@ -154,13 +159,7 @@ fn count_bytes(s: &[u8], base: usize, from: usize, bytes: usize) -> u32
     ensures { (result ≡ count_bits s.now base from (8 * bytes)) × (result ≤ 8 * bytes) }
 {
     let at = base + from / 8;
-    let mut n: u32 = 0;
-    let mut i: usize = 0;
-    while i < bytes {
-        n += u32::count_ones(wide(s[at + i]));
-        i += 1;
-    }
-    n
+    s[at..at + bytes].iter().map(|byte| byte.count_ones()).sum()
 }
 
 // How many of the `count` bits from `from` on are set? A run of whole bytes is counted byte by byte.

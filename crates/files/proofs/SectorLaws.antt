@@ -39,16 +39,18 @@ exchanged_pair (x ∷ (y ∷ s)) (suc zero) e h = absurd (omega (arith, e))
 exchanged_pair (x ∷ (y ∷ s)) (suc (suc j)) e h = exchanged_pair s j (omega (arith, e)) (le_of_suc-le-suc (le_of_suc-le-suc h))
 
 -- a turn that exchanges a pair, and the end
-pub exchange_more : (d s x : List ℕ) (j : ℕ) → x ≡ paste d 0 (exchanged s) j → j % 2 ≡ 0 → j + 1 < length s → length s ≡ length d
-    → set (set x j (get_or s (j + 1) 0)) (j + 1) (get_or s j 0) ≡ paste d 0 (exchanged s) (j + 2)
-exchange_more d s x j e even h l =
+pub exchange_more : (d s x : List ℕ) (k : ℕ) → x ≡ paste d 0 (exchanged s) (2 * k) → 2 * k + 1 < length s → length s ≡ length d
+    → set (set x (2 * k) (get_or s (2 * k + 1) 0)) (2 * k + 1) (get_or s (2 * k) 0) ≡ paste d 0 (exchanged s) (2 * (k + 1))
+exchange_more d s x k e h l =
+    let j : ℕ = 2 * k in
+    let even : j % 2 ≡ 0 = omega arith in
     let once : set x j (get_or s (j + 1) 0) ≡ paste d 0 (exchanged s) (j + 1) =
     ap₂ (λ (i v : ℕ). set x i v) (sym (zero-add j)) (ap (λ (i : ℕ). get_or s i 0) (add-one j) ∙ sym (exchanged_pair s j even (omega arith)).0)
     ∙ copy_more d (exchanged s) x 0 j e (omega arith) (omega (arith, length_exchanged s)) in
     ap₂ (λ (i v : ℕ). set (set x j (get_or s (j + 1) 0)) i v) (sym (zero-add (j + 1)))
     (sym (exchanged_pair s j even (omega arith)).1 ∙ ap (λ (i : ℕ). get_or (exchanged s) i 0) (sym (add-one j)))
     ∙ copy_more d (exchanged s) (set x j (get_or s (j + 1) 0)) 0 (j + 1) once (omega arith) (omega (arith, length_exchanged s))
-    ∙ ap (paste d 0 (exchanged s)) (let q : j + 1 + 1 ≡ j + 2 = omega arith in q)
+    ∙ ap (paste d 0 (exchanged s)) (let q : j + 1 + 1 ≡ 2 * (k + 1) = omega arith in q)
 
 pub exchange_end : (d s x : List ℕ) (j : ℕ) → x ≡ paste d 0 (exchanged s) j → length s ≡ length d → j ≡ length s → x ≡ exchanged s
 exchange_end d s x j e l h =

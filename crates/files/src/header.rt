@@ -10,6 +10,7 @@ ghost use Rattle.files.specs.Headers.{free_run, headed};
 use crate::zones::recounted;
 use allocation::choice::Found;
 use allocation::header::{put_run, run_start};
+use tables::books::Books;
 use tables::index::{HEADER, Pointer, pointer_at, put_pointer, table};
 use tables::kinds::{Index, zone_of};
 use tables::places::Places;
@@ -27,7 +28,7 @@ fn free_run(b: &mut [u8], p: Places, q: Pointer)
     }
     put_sectors(b, p, q.start, q.count, 0);
     let z = zone_of(q.start);
-    let e = recounted(zone_entry(b, p, z), q.count);
+    let e = recounted(zone_entry(&Books { raw: b, places: p }, z), q.count);
     put_zone(b, p, z, e.ztype, e.free, e.third);
 }
 
@@ -40,7 +41,7 @@ pub fn head_file(b: &mut [u8], p: Places, f: Index, n: u32, k: Found)
     requires k_value { (k ≡ header_place (view_of p b.old) n) × (k.zone.0 < p.zones) }
     ensures { b.new ≡ headed p b.old f.0 n }
 {
-    let old = pointer_at(table(b, p, f), HEADER);
+    let old = pointer_at(table(&Books { raw: b, places: p }, f), HEADER);
     put_run(b, p, n, k);
     let new = Pointer {
         start: run_start(k),

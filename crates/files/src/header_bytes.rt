@@ -2,16 +2,15 @@
 ghost use Rattle.std.specs.Prelude.{◌≡◌, ◌+◌, ◌*◌, ◌≤◌, length};
 ghost use Rattle.field.specs.Parts.{over};
 ghost use Rattle.tables.specs.Indexes.{table_at};
-ghost use Rattle.tables.specs.Places.{Layout};
-ghost use Rattle.tables.specs.Views.{view_of};
+ghost use Rattle.tables.specs.Views.{books_view};
 ghost use Rattle.files.specs.HeaderBytes.{header_sectors, header_bytes, header_marked, HeaderInBody};
 
 use crate::sectors::body_place;
 use field::numbers::{put_u16, put_u32};
 use field::parts::{copy, fill};
+use tables::books::Books;
 use tables::index::{HEADER, pointer_at, table};
 use tables::kinds::Index;
-use tables::places::Places;
 use tables::sizes::{ROUND_UP_LEN, SECTOR_LEN};
 
 // Where the length of the data and the data begin in a header; the file's id stands first.
@@ -51,13 +50,12 @@ pub fn lay_header(body: &mut [u8], at: usize, f: Index, bytes: &[u8])
 }
 
 // Writes w for the first four bytes of the header of file f, where it has one.
-pub fn mark_header(b: &[u8], p: Places, f: Index, w: u32, body: &mut [u8])
-    requires layout { Layout p (length b.now) }
-    requires le_f { (1 ≤ f.0) × (f.0 ≤ p.indexes) }
-    requires header_in_body { HeaderInBody (table_at p b.now f.0) (length body.old) }
-    ensures { body.new ≡ header_marked (view_of p b.now) f.0 w body.old }
+pub fn mark_header(b: &Books<'_>, f: Index, w: u32, body: &mut [u8])
+    requires le_f { (1 ≤ f.0) × (f.0 ≤ b.now.places.indexes) }
+    requires header_in_body { HeaderInBody (table_at b.now.places b.now.raw.now f.0) (length body.old) }
+    ensures { body.new ≡ header_marked (books_view b.now) f.0 w body.old }
 {
-    let q = pointer_at(table(b, p, f), HEADER);
+    let q = pointer_at(table(b, f), HEADER);
     if q.count == 0 {
         return;
     }

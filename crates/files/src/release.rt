@@ -10,6 +10,7 @@ ghost use Rattle.files.specs.Asked.{RunsWithin};
 
 use crate::zones::recount_zones;
 use allocation::last::last_table;
+use tables::books::Books;
 use tables::index::{
     HEADER, LINK, POINTER, base, erase, first_word, link, pointer_at, put_link, slots, table,
 };
@@ -25,13 +26,11 @@ fn clear_runs(b: &mut [u8], p: Places, i: Index)
     requires runs_within { RunsWithin p i.0 (table_at p b.old i.0) }
     ensures { b.new ≡ clear_runs p b.old i.0 (table_at p b.old i.0) (slots_of i.0 (table_at p b.old i.0)) }
 {
-    let n = slots(i, table(b, p, i));
-    let at = base(i, table(b, p, i));
-    let mut j: usize = 0;
-    while j < n {
-        let q = pointer_at(table(b, p, i), at + POINTER * j);
+    let n = slots(i, table(&Books { raw: b, places: p }, i));
+    let at = base(i, table(&Books { raw: b, places: p }, i));
+    for j in 0..n {
+        let q = pointer_at(table(&Books { raw: b, places: p }, i), at + POINTER * j);
         put_sectors(b, p, q.start, q.count, 0);
-        j += 1;
     }
 }
 
@@ -42,10 +41,10 @@ fn clear_header(b: &mut [u8], p: Places, i: Index)
     requires runs_within { RunsWithin p i.0 (table_at p b.old i.0) }
     ensures { b.new ≡ clear_header p b.old i.0 (table_at p b.old i.0) }
 {
-    if first_word(table(b, p, i)) != i.0 {
+    if first_word(table(&Books { raw: b, places: p }, i)) != i.0 {
         return;
     }
-    let q = pointer_at(table(b, p, i), HEADER);
+    let q = pointer_at(table(&Books { raw: b, places: p }, i), HEADER);
     put_sectors(b, p, q.start, q.count, 0);
 }
 
@@ -68,11 +67,12 @@ fn free_tables(b: &mut [u8], p: Places, f: Index) -> u32
     requires parent { Parent (view_of p b.old) f.0 }
     ensures { (result ≡ file_tables (view_of p b.old) f.0) × (b.new ≡ free_tables p b.old (chain_of (view_of p b.old) f.0)) × (result ≤ 4096) }
 {
-    let mut i = f.0;
+    let mut i = f;
     let mut n: u32 = 0;
-    while i != 0 {
-        free_table(b, p, Index(i));
-        i = link(table(b, p, Index(i))).0;
+    // It follows the links to their end: there is no range for a `for`.
+    while i.0 != 0 {
+        free_table(b, p, i);
+        i = link(table(&Books { raw: b, places: p }, i));
         n += 1;
     }
     n
@@ -103,7 +103,7 @@ fn free_file(b: &mut [u8], p: Places, f: Index, date: &[u8])
     ensures { b.new ≡ freed_file p b.old f.0 date.now }
 {
     let first = sector1::first_free(b);
-    let last = last_table(b, p, f);
+    let last = last_table(&Books { raw: b, places: p }, f);
     let n = free_tables(b, p, f);
     put_link(b, p, last, first);
     put_freed(b, f, n, date);

@@ -1,15 +1,14 @@
 // A file's sectors in order: the next one, and the k-th, which is sought pointer by pointer.
 ghost use Rattle.std.specs.Prelude.{◌≡◌, ◌+◌, ◌<◌, length};
-ghost use Rattle.tables.specs.Places.{Layout};
 ghost use Rattle.tables.specs.Lawful.{LawfulSome};
 ghost use Rattle.tables.specs.Rules.R8.{file_sectors};
-ghost use Rattle.tables.specs.Views.{view_of, Parent};
+ghost use Rattle.tables.specs.Views.{books_view, Parent};
 ghost use Rattle.files.specs.Spots.{spot_start, spot_count, more_at, next_run, onward, spot_of};
 ghost use Rattle.files.specs.Asked.{OnTable, OnSector};
 
+use tables::books::Books;
 use tables::index::{POINTER, Pointer, base, link, pointer_at, slots, table};
 use tables::kinds::{Index, Sector};
-use tables::places::Places;
 
 // A sector under a pointer: the table, the pointer's number in it, and the sectors before it under the same pointer.
 #[derive(Clone, Copy)]
@@ -20,22 +19,20 @@ pub struct Spot {
 }
 
 // The pointer at the spot.
-fn pointer_of(b: &[u8], p: Places, c: Spot) -> Pointer
-    requires layout { Layout p (length b.now) }
-    requires on_table { OnTable (view_of p b.now) c }
-    ensures { (result.start.0 ≡ spot_start (view_of p b.now) c) × (result.count ≡ spot_count (view_of p b.now) c) × (result.count < 65536) }
+fn pointer_of(b: &Books<'_>, c: Spot) -> Pointer
+    requires on_table { OnTable (books_view b.now) c }
+    ensures { (result.start.0 ≡ spot_start (books_view b.now) c) × (result.count ≡ spot_count (books_view b.now) c) × (result.count < 65536) }
 {
-    let t = table(b, p, c.table);
+    let t = table(b, c.table);
     pointer_at(t, base(c.table, t) + POINTER * c.slot)
 }
 
 // Is the next pointer of the table used?
-fn more_at(b: &[u8], p: Places, c: Spot) -> bool
-    requires layout { Layout p (length b.now) }
-    requires on_table { OnTable (view_of p b.now) c }
-    ensures { result ≡ more_at (view_of p b.now) c }
+fn more_at(b: &Books<'_>, c: Spot) -> bool
+    requires on_table { OnTable (books_view b.now) c }
+    ensures { result ≡ more_at (books_view b.now) c }
 {
-    let t = table(b, p, c.table);
+    let t = table(b, c.table);
     let j = c.slot + 1;
     if j >= slots(c.table, t) {
         return false;
@@ -45,61 +42,51 @@ fn more_at(b: &[u8], p: Places, c: Spot) -> bool
 }
 
 // The first sector under the next pointer.
-fn next_run(b: &[u8], p: Places, c: Spot) -> Spot
-    requires layout { Layout p (length b.now) }
-    requires on_table { OnTable (view_of p b.now) c }
-    ensures { result ≡ next_run (view_of p b.now) c }
+fn next_run(b: &Books<'_>, c: Spot) -> Spot
+    requires on_table { OnTable (books_view b.now) c }
+    ensures { result ≡ next_run (books_view b.now) c }
 {
-    let i = c.table;
-    if more_at(b, p, c) {
+    if more_at(b, c) {
         return Spot {
-            table: i,
             slot: c.slot + 1,
             off: 0,
+            ..c
         };
     }
     Spot {
-        table: link(table(b, p, i)),
+        table: link(table(b, c.table)),
         slot: 0,
         off: 0,
     }
 }
 
 // The next sector.
-pub fn onward(b: &[u8], p: Places, c: Spot) -> Spot
-    requires layout { Layout p (length b.now) }
-    requires on_sector { OnSector (view_of p b.now) c }
-    ensures { result ≡ onward (view_of p b.now) c }
+pub fn onward(b: &Books<'_>, c: Spot) -> Spot
+    requires on_sector { OnSector (books_view b.now) c }
+    ensures { result ≡ onward (books_view b.now) c }
 {
-    let i = c.table;
-    let q = pointer_of(b, p, c);
-    if c.off + 1 < q.count {
-        return Spot {
-            table: i,
-            slot: c.slot,
-            off: c.off + 1,
-        };
+    if c.off + 1 < pointer_of(b, c).count {
+        let off = c.off + 1;
+        return Spot { off, ..c };
     }
-    next_run(b, p, c)
+    next_run(b, c)
 }
 
 // The spot's sector.
-pub fn sector_of(b: &[u8], p: Places, c: Spot) -> Sector
-    requires layout { Layout p (length b.now) }
-    requires on_sector { OnSector (view_of p b.now) c }
-    ensures { result.0 ≡ spot_start (view_of p b.now) c + c.off }
+pub fn sector_of(b: &Books<'_>, c: Spot) -> Sector
+    requires on_sector { OnSector (books_view b.now) c }
+    ensures { result.0 ≡ spot_start (books_view b.now) c + c.off }
 {
-    let q = pointer_of(b, p, c);
+    let q = pointer_of(b, c);
     Sector(q.start.0 + c.off)
 }
 
 // The k-th sector of file f.
-pub fn seek(b: &[u8], p: Places, f: Index, k: u32) -> Spot
-    requires layout { Layout p (length b.now) }
-    requires lawful_some { LawfulSome p b.now }
-    requires parent { Parent (view_of p b.now) f.0 }
-    requires k_bound { k < file_sectors (view_of p b.now) f.0 }
-    ensures { result ≡ spot_of (view_of p b.now) f.0 k }
+pub fn seek(b: &Books<'_>, f: Index, k: u32) -> Spot
+    requires lawful_some { LawfulSome b.now.places b.now.raw.now }
+    requires parent { Parent (books_view b.now) f.0 }
+    requires k_bound { k < file_sectors (books_view b.now) f.0 }
+    ensures { result ≡ spot_of (books_view b.now) f.0 k }
 {
     let mut c = Spot {
         table: f,
@@ -107,16 +94,12 @@ pub fn seek(b: &[u8], p: Places, f: Index, k: u32) -> Spot
         off: 0,
     };
     let mut rest = k;
-    let mut n = pointer_of(b, p, c).count;
+    let mut n = pointer_of(b, c).count;
+    // It goes on by as many sectors as a pointer has: there is no range for a `for`.
     while rest >= n {
         rest -= n;
-        c = next_run(b, p, c);
-        n = pointer_of(b, p, c).count;
+        c = next_run(b, c);
+        n = pointer_of(b, c).count;
     }
-    let i = c.table;
-    Spot {
-        table: i,
-        slot: c.slot,
-        off: rest,
-    }
+    Spot { off: rest, ..c }
 }

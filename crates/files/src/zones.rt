@@ -11,6 +11,7 @@ ghost use Rattle.files.specs.Release.{recounted, recount_zone, recount_zones};
 
 use field::runs::count_bits;
 use tables::blocks::{block_sectors, is_zone_type, zone_blocks};
+use tables::books::Books;
 use tables::kinds::{Zone, first_sector};
 use tables::places::Places;
 use tables::sizes::ZONE;
@@ -20,14 +21,13 @@ use tables::zone::{ZoneEntry, put_zone, zone_entry};
 const ZONE_LEN: usize = ZONE as usize;
 
 // How many blocks of zone z, which is of type t, are clear.
-fn clear_blocks(b: &[u8], p: Places, z: Zone, t: u32) -> u32
-    requires layout { Layout p (length b.now) }
-    requires le_z { (2 ≤ z.0) × (z.0 < p.zones) }
+fn clear_blocks(b: &Books<'_>, z: Zone, t: u32) -> u32
+    requires le_z { (2 ≤ z.0) × (z.0 < b.now.places.zones) }
     requires zone_type { ZoneType t }
-    ensures { (result ≤ 1024) × ((n : ℕ) → Blocks (sector_at p b.now) (first_of z.0) (block_of t) n → result ≡ n) }
+    ensures { (result ≤ 1024) × ((n : ℕ) → Blocks (sector_at b.now.places b.now.raw.now) (first_of z.0) (block_of t) n → result ≡ n) }
 {
     let first = first_sector(z).0 as usize;
-    let set = count_bits(b, p.sectortable, first, ZONE_LEN);
+    let set = count_bits(b.raw, b.places.sectortable, first, ZONE_LEN);
     (ZONE - set) / block_sectors(t)
 }
 
@@ -45,11 +45,7 @@ pub fn recounted(e: ZoneEntry, n: u32) -> ZoneEntry
             third: 0,
         };
     }
-    ZoneEntry {
-        ztype: e.ztype,
-        free,
-        third: e.third,
-    }
+    ZoneEntry { free, ..e }
 }
 
 // Zone z's entry, if it is of type 2-8.
@@ -58,11 +54,11 @@ fn recount_zone(b: &mut [u8], p: Places, z: Zone)
     requires le_z { (2 ≤ z.0) × (z.0 < p.zones) }
     ensures { (n : ℕ) → Short (view_of p b.old) z.0 n → b.new ≡ recount_zone p b.old z.0 n }
 {
-    let e = zone_entry(b, p, z);
+    let e = zone_entry(&Books { raw: b, places: p }, z);
     if !is_zone_type(e.ztype) {
         return;
     }
-    let n = clear_blocks(b, p, z, e.ztype);
+    let n = clear_blocks(&Books { raw: b, places: p }, z, e.ztype);
     if n <= e.free {
         return;
     }
@@ -75,10 +71,7 @@ pub fn recount_zones(b: &mut [u8], p: Places)
     requires { Layout p (length b.old) }
     ensures { (freed : ℕ → ℕ) → AllShort (view_of p b.old) freed → b.new ≡ recount_zones p b.old freed (p.zones - 2) }
 {
-    let zones = p.zones;
-    let mut z: u32 = 2;
-    while z < zones {
+    for z in 2..p.zones {
         recount_zone(b, p, Zone(z));
-        z += 1;
     }
 }

@@ -1,4 +1,5 @@
 -- A file that two volumes have alike: show, show header and read answer the same of it.
+use Rattle.std.specs.Prelude.{Option, Result, Ok, Err, IfOk}
 use mathlib.Core.Path.{◌≡◌, refl, sym, ap, ap₂, ◌∙◌}
 use mathlib.Core.Logic.{inl, inr, ◌≢◌}
 use mathlib.Core.Bool.{Bool}
@@ -19,9 +20,7 @@ use Rattle.allocation.proofs.ChangeLaws.{parent_file}
 use Rattle.files.specs.Moves.{moved, fetched}
 use Rattle.files.specs.Unchanged.{Untouched}
 use Rattle.files.proofs.UntouchedLaws.{other_table, other_parent, other_sectors}
-use Rattle.requests.specs.declared.amount.Amount.{Amount}
-use Rattle.requests.specs.declared.answer.Answer.{Answer}
-use Rattle.requests.specs.Answers.{after, number_of, answer_of, use_tests, argument_tests}
+use Rattle.requests.specs.Answers.{after, use_tests, argument_tests}
 use Rattle.requests.specs.Body.{BodySized, body_test}
 use Rattle.requests.specs.Amounts.{amount_value}
 use Rattle.requests.specs.Header.{show_header_tests, HeaderShown}
@@ -38,6 +37,9 @@ use Rattle.histories.proofs.HistoryLaws.{other_bytes}
 use Rattle.requests.proofs.LocateLaws.{show_asks}
 use Rattle.requests.proofs.NamedLaws.{usable_active}
 use Rattle.requests.proofs.ReadLaws.{read_parent, read_moves}
+use Rattle.tables.specs.Refusals.{number_of}
+use Rattle.tables.proofs.RefusalLaws.{answers_one}
+use Rattle.tables.specs.declared.refusal.Refusal.{Refusal}
 
 -- ---- tests that say the same
 
@@ -157,7 +159,7 @@ module _ (v w : Volume) (g : ℕ) (a : SameFile v w g) where
     unfolding read_amount
     amount_same at long = rw end_same
 
-  read_number : (position long : Amount) (room r s : ℕ) → Gate (read_tests v.books v.withheld v.body g position long room) r
+  read_number : (position long : Option ℕ) (room r s : ℕ) → Gate (read_tests v.books v.withheld v.body g position long room) r
       → Gate (read_tests w.books w.withheld w.body g position long room) s → r ≡ s
   unfolding read_tests argument_tests use_tests
   read_number position long room r s = same_number _ _ r s (same_use _ _ (same_more 7 _ _ _ _ (λ m. m) (λ m. m) (λ m. same_body 8 _ _ (λ parent. same_last 14 _ _ (λ l. rw (end_same parent) l) (λ l. rw (end_same parent) at l)))))
@@ -169,17 +171,17 @@ module _ (v w : Volume) (g : ℕ) (a : SameFile v w g) where
   fetched_same k x out (suc n) parent l =
       ap₂ (λ (y z : List ℕ). over y (1024 * n) (moved x z)) (fetched_same k x out n parent (omega arith)) (sym (a.data' parent (k + n) (omega arith)))
 
-  module _ (position long : Amount) (x : Bool) (out : List ℕ) where
+  module _ (position long : Option ℕ) (x : Bool) (out : List ℕ) where
     abbrev at : ℕ
     at = amount_value position
 
     abbrev asked : ℕ
     asked = amount_value long
 
-    read_answer : (n : ℕ) → Gate (read_tests v.books v.withheld v.body g position long (length out)) n
-        → answer_of n (read_amount v.books g at asked) ≡ answer_of n (read_amount w.books g at asked)
-    read_answer zero gate = ap (answer_of 0) (amount_same (read_parent v.books v.withheld v.body g position long (length out) 0 gate refl (places_of v.books) refl) at asked)
-    read_answer (suc n) gate = refl
+    read_answer : (r : Result ℕ Refusal) → Gate (read_tests v.books v.withheld v.body g position long (length out)) (number_of r)
+        → IfOk r (λ (n : ℕ). n ≡ read_amount v.books g at asked) → IfOk r (λ (n : ℕ). n ≡ read_amount w.books g at asked)
+    read_answer (Ok n) gate e = e ∙ amount_same (read_parent v.books v.withheld v.body g position long (length out) 0 gate refl (places_of v.books) refl) at asked
+    read_answer (Err why) gate e = tt
 
     read_bytes : (n : ℕ) → Gate (read_tests v.books v.withheld v.body g position long (length out)) n
         → after n (read_out v.books v.body g at (read_amount v.books g at asked) x out) out
@@ -189,17 +191,17 @@ module _ (v w : Volume) (g : ℕ) (a : SameFile v w g) where
         fetched_same (at / 1024) x out _ m.parent m.within ∙ ap (λ (n : ℕ). read_out w.books w.body g at n x out) (amount_same m.parent at asked)
     read_bytes (suc n) gate = refl
 
-    pub reads_same : (r s : Answer) (y z : List ℕ) → ReadOut v.books v.withheld v.body g position long x out r y → ReadOut w.books w.withheld w.body g position long x out s z → (r ≡ s) × (y ≡ z)
+    pub reads_same : (r s : Result ℕ Refusal) (y z : List ℕ) → ReadOut v.books v.withheld v.body g position long x out r y → ReadOut w.books w.withheld w.body g position long x out s z → (r ≡ s) × (y ≡ z)
     reads_same r s y z old new =
         let e = read_number position long (length out) (number_of r) (number_of s) old.number new.number in (
-          old.answer ∙ read_answer (number_of r) old.number ∙ ap (λ (n : ℕ). answer_of n (read_amount w.books g at asked)) e ∙ sym new.answer,
+          answers_one r s _ _ (read_answer r old.number old.answer) new.answer (λ a c p q. p ∙ sym q) e,
           old.output ∙ read_bytes (number_of r) old.number
               ∙ ap (λ (n : ℕ). after n (read_out w.books w.body g at (read_amount w.books g at asked) x out) out) e ∙ sym new.output,
         )
 
 -- ---- a file that a write does not name
 
-module _ (v w : Volume) (lawful : LawfulVolume v) (f : ℕ) (position long : Amount) (x : Bool) (input date : List ℕ) (d : Does (write f position long x input date) v w) (g : ℕ) (other : g ≢ f) where
+module _ (v w : Volume) (lawful : LawfulVolume v) (f : ℕ) (position long : Option ℕ) (x : Bool) (input date : List ℕ) (d : Does (write f position long x input date) v w) (g : ℕ) (other : g ≢ f) where
   untouched : (q : Places) → q ≡ places_of v.books → Untouched (seen v) (view_of q w.books) f
   untouched q e = rw e (wrote_steady v w f position long x input date d.0 d.1.promise (zero_good v.books v.withheld lawful.lawful).books).0
 

@@ -1,4 +1,5 @@
 -- The bench cards: each line of the table of specs/Cards.antt is computed on the view that shows its books.
+use Rattle.std.specs.Prelude.{Some, Result, Ok, Err}
 use mathlib.Core.Path.{◌≡◌, refl, sym, ap, ◌∙◌}
 use mathlib.Core.Logic.{◌≢◌}
 use mathlib.Core.List.{List, [], ◌∷◌}
@@ -8,7 +9,6 @@ use native.Mathlib.Omega.{arith}
 use lib.ListN.{length, replicate}
 use Rattle.field.specs.Numbers.{u16_at, u32_at, put_u32}
 use Rattle.field.specs.Parts.{over}
-use Rattle.tables.specs.declared.counts.Chosen.TheVariants.{Types}
 use Rattle.tables.specs.Books.{GoodWith}
 use Rattle.tables.specs.Gates.{asks, Gate}
 use Rattle.tables.specs.Places.{places_of}
@@ -25,9 +25,6 @@ use Rattle.allocation.specs.NewTables.{New}
 use Rattle.allocation.specs.MadeFiles.{ProvidedWith}
 use Rattle.files.specs.Moves.{moved, sector_content, fetched}
 use Rattle.files.specs.Spots.{spot_of, kth_sector}
-use Rattle.requests.specs.declared.amount.Amount.TheVariants.{Is}
-use Rattle.requests.specs.declared.answer.Answer.{Answer}
-use Rattle.requests.specs.declared.answer.Answer.TheVariants.{Done, Refused}
 use Rattle.requests.specs.Answers.{use_tests, argument_tests}
 use Rattle.requests.specs.Body.{BodySized}
 use Rattle.requests.specs.Named.{file_bytes, state_tests, usable_tests}
@@ -39,6 +36,8 @@ use Rattle.histories.specs.Cards.{OneResult, done, refused, card_date, pointers_
 use Rattle.histories.proofs.CreateAnswers.{bare_good, create_bad, create_done}
 use Rattle.histories.proofs.InterleavedCards.{view_grown2, view_deleted1, view_joined2, making1, making2, growing1, growing2, removing1, deleting1, joining2, tables12, zone12, table13, zones13}
 use Rattle.histories.proofs.CardBooks.{view, with_fixed_view, roomy, taken, fresh4, fresh3, fresh36, AllowedNamed, Allowed, allowed, Makes, no_room, makes_fixed, bytes, pointers, zone_free, kth_same}
+use Rattle.tables.specs.declared.refusal.Refusal.{Refusal}
+use Rattle.tables.specs.declared.refusal.Refusal.TheVariants.{NoRoom, PastEnd, BadArgument}
 
 -- ---- the views in turn
 
@@ -82,7 +81,7 @@ made6 : Makes 4 (Create after5 252 1) (done 2) after6 view6
 unfolding after6 view6 view5 roomy taken blank formatted label put_zone table_at put_u32 over
 made6 = makes_fixed 4 after5 view5 252 1 made5.usable (all_types 1 (omega arith) (omega arith)) refl refl refl 2 refl
 
-refused7 : OneResult (Create after6 252 20480) (refused 12) after6
+refused7 : OneResult (Create after6 252 20480) (refused NoRoom) after6
 unfolding view6 roomy counts_of
 refused7 = no_room 4 after6 view6 made6.usable _ _ _ (all_types 20480 (omega arith) (omega arith)) refl
 
@@ -90,7 +89,7 @@ made8 : Makes 4 (Create after6 4 20480) (done 3) after8 view8
 unfolding after8 view8 view6 roomy taken blank formatted label put_zone table_at put_u32 over
 made8 = makes_fixed 4 after6 view6 4 20480 made6.usable (only_C 20480 (omega arith) (omega arith)) refl refl refl 3 refl
 
-refused9 : OneResult (Create (fresh 5120 3) 252 5000) (refused 12) (fresh 5120 3)
+refused9 : OneResult (Create (fresh 5120 3) 252 5000) (refused NoRoom) (fresh 5120 3)
 unfolding view roomy counts_of
 refused9 = no_room 3 (fresh 5120 3) (view 5120 3) fresh3.usable _ _ _ (all_types 5000 (omega arith) (omega arith)) refl
 
@@ -112,7 +111,7 @@ provided5 : ProvidedWith nothing (fresh_places 4 8) (fresh 5120 4) no_pointer (c
 provided5 =
     let g = fresh4.usable.good in
     let promise = made5.result.met in
-    let asked = creates_asks (fresh 5120 4) [] (Allowed 252 5000) _ _ (done 1) after5 (rw g.places at g) (fixed_lawful (65 ∷ []) (Is 5000) (Types 252) 0 card_date) promise refl in
+    let asked = creates_asks (fresh 5120 4) [] (Allowed 252 5000) _ _ (done 1) after5 (rw g.places at g) (fixed_lawful (65 ∷ []) (Some 5000) (Some 252) 0 card_date) promise refl in
     rw g.places asked.1
 
 used4 : flag_of (fresh 5120 4) ≢ 0
@@ -126,7 +125,7 @@ long_name =
     let n : New = record { name = replicate 24 65; date = card_date; length = 5000; attribute = 0 } in
     (_, rw e at (create_done (fresh 5120 4) (fresh_places 4 8) (AllowedNamed (replicate 24 65) 252 5000) (counts_of 252 5000) n fresh4.usable.good used4 a provided5))
 
-longer_name : OneResult (CreateNamed (replicate 25 65) (fresh 5120 4) 252 5000) (refused 7) (fresh 5120 4)
+longer_name : OneResult (CreateNamed (replicate 25 65) (fresh 5120 4) 252 5000) (refused BadArgument) (fresh 5120 4)
 longer_name = create_bad (fresh 5120 4) (fresh_places 4 8) _ _ _ fresh4.usable.good used4 (λ a. omega (arith, a.file.name'.most))
 
 -- ---- what read finds in the books after P5
@@ -159,13 +158,13 @@ kth5 = kth_same (view_of (places_of after5) after5) view5 1 4 (λ j l. rw (spots
 
 -- no number before 14 applies
 read5 : (at long n : ℕ) → at ≤ 2147483647 → at % 1024 ≡ 0 → long ≤ 2147483647 → Gate (asks 14 (at < end_of after5 1) ∷ []) n
-    → (body out : List ℕ) → BodySized after5 body → whole_sectors long ≤ length out → Gate (read_tests after5 [] body 1 (Is at) (Is long) (length out)) n
+    → (body out : List ℕ) → BodySized after5 body → whole_sectors long ≤ length out → Gate (read_tests after5 [] body 1 (Some at) (Some long) (length out)) n
 unfolding read_tests argument_tests use_tests usable_tests state_tests
 read5 at long n few whole short last body out sized room =
-    let fine : MoveAllowed (Is at) (Is long) (length out) = record { position' = few; sector = whole; long' = short; buffer = room } in
+    let fine : MoveAllowed (Some at) (Some long) (length out) = record { position' = few; sector = whole; long' = short; buffer = room } in
     let word = ap word_of bytes5 ∙ fields5.0 in
     let attribute = ap attribute_of bytes5 ∙ fields5.2 in
-    gate_skip (argument_tests after5 [] (MoveAllowed (Is at) (Is long) (length out))) _ 0 n
+    gate_skip (argument_tests after5 [] (MoveAllowed (Some at) (Some long) (length out))) _ 0 n
     (gate_skip (use_tests after5 []) _ 0 0 (good_gate after5 [] (fresh_places 4 8) _ 0 (bare_good after5 (fresh_places 4 8) good5) (gate_passes 5 _ [] 0 (λ z. omega (arith, z, made5.usable.mounted)) gate_end)) refl (gate_passes 7 _ [] 0 fine gate_end))
     refl
     (gate_passes 15 _ _ n sized
@@ -181,29 +180,29 @@ output5 : (exchange : Bool) (body out : List ℕ) → read_out after5 body 1 409
 unfolding fetched
 output5 exchange body out = ap (λ (s : ℕ). over out 0 (moved exchange (sector_content body s))) kth5
 
-one_read : (b : List ℕ) (at long : ℕ) (exchange : Bool) (body out : List ℕ) (r : Answer) (out' : List ℕ) → ReadOut b [] body 1 (Is at) (Is long) exchange out r out'
-    → OneResult (ReadOut b [] body 1 (Is at) (Is long) exchange out) r out'
-one_read b at long exchange body out r out' h = record { met = h; only = λ s o k. read_one b [] body 1 (Is at) (Is long) exchange out s r o out' k h }
+one_read : (b : List ℕ) (at long : ℕ) (exchange : Bool) (body out : List ℕ) (r : Result ℕ Refusal) (out' : List ℕ) → ReadOut b [] body 1 (Some at) (Some long) exchange out r out'
+    → OneResult (ReadOut b [] body 1 (Some at) (Some long) exchange out) r out'
+one_read b at long exchange body out r out' h = record { met = h; only = λ s o k. read_one b [] body 1 (Some at) (Some long) exchange out s r o out' k h }
 
-last_sector : ReadGives after5 4096 2048 (Done 1024) (λ exchange body out. over out 0 (moved exchange (sector_content body 2048)))
-last_sector exchange body out sized room = one_read after5 4096 2048 exchange body out (Done 1024) (over out 0 (moved exchange (sector_content body 2048))) (record {
+last_sector : ReadGives after5 4096 2048 (Ok 1024) (λ exchange body out. over out 0 (moved exchange (sector_content body 2048)))
+last_sector exchange body out sized room = one_read after5 4096 2048 exchange body out (Ok 1024) (over out 0 (moved exchange (sector_content body 2048))) (record {
   number = read5 4096 2048 0 (omega arith) refl (omega arith) (gate_passes 14 _ [] 0 (rw end5 (omega arith)) gate_end) body out sized room;
-  answer = ap Done (sym amount5.0);
+  answer = sym amount5.0;
   output = sym (ap (λ (n : ℕ). read_out after5 body 1 4096 n exchange out) amount5.0 ∙ output5 exchange body out);
 })
 
-past_end : ReadGives after5 5120 2048 (Refused 14) (λ exchange body out. out)
-past_end exchange body out sized room = one_read after5 5120 2048 exchange body out (Refused 14) out (record {
+past_end : ReadGives after5 5120 2048 (Err PastEnd) (λ exchange body out. out)
+past_end exchange body out sized room = one_read after5 5120 2048 exchange body out (Err PastEnd) out (record {
   number = read5 5120 2048 14 (omega arith) refl (omega arith) (gate_fails 14 _ [] (omega arith) (λ l. omega (arith, l, end5))) body out sized room;
-  answer = refl;
+  answer = tt;
   output = refl;
 })
 
-no_bytes : ReadGives after5 0 1023 (Done 0) (λ exchange body out. out)
+no_bytes : ReadGives after5 0 1023 (Ok 0) (λ exchange body out. out)
 unfolding fetched
-no_bytes exchange body out sized room = one_read after5 0 1023 exchange body out (Done 0) out (record {
+no_bytes exchange body out sized room = one_read after5 0 1023 exchange body out (Ok 0) out (record {
   number = read5 0 1023 0 (omega arith) refl (omega arith) (gate_passes 14 _ [] 0 (rw end5 (omega arith)) gate_end) body out sized room;
-  answer = ap Done (sym amount5.1);
+  answer = sym amount5.1;
   output = sym (ap (λ (n : ℕ). read_out after5 body 1 0 n exchange out) amount5.1);
 })
 

@@ -1,4 +1,5 @@
 -- Books of the bench cards, good and mounted, and views that compute and show them: fresh ones, and those with a new file more.
+use Rattle.std.specs.Prelude.{Some}
 use mathlib.Core.Path.{◌≡◌, refl, sym, ap, ◌∙◌}
 use mathlib.Core.Logic.{◌≢◌}
 use mathlib.Core.List.{List, [], ◌∷◌}
@@ -12,7 +13,6 @@ use Rattle.field.specs.Numbers.{u16_at, u32_at, put_u16, put_u32}
 use Rattle.field.specs.Parts.{over}
 use Rattle.field.specs.Sum.{sum_to}
 use Rattle.field.proofs.NumberLaws.{kept_put_u16}
-use Rattle.tables.specs.declared.counts.Chosen.TheVariants.{Types}
 use Rattle.tables.specs.declared.places.Places.{Places}
 use Rattle.tables.specs.declared.zone.ZoneEntry.{ZoneEntry}
 use Rattle.tables.specs.Blocks.{block_of}
@@ -50,7 +50,6 @@ use Rattle.allocation.proofs.ViewGrowth.{with_tables, Sight, laid_view, add_view
 use Rattle.allocation.proofs.FreshView.{fresh_view, created_view, created_is, Staged, staged_created, staged_fresh, staged_flag}
 use Rattle.files.specs.declared.spot.Spot.{Spot}
 use Rattle.files.specs.Spots.{onward, spot_of, kth_sector}
-use Rattle.requests.specs.declared.amount.Amount.TheVariants.{Is}
 use Rattle.requests.specs.Answers.{argument_tests}
 use Rattle.requests.specs.Create.{Creates, FixedAllowed, cell_type, VariableAllowed}
 use Rattle.requests.specs.Format.{Formatted}
@@ -65,6 +64,7 @@ use Rattle.requests.proofs.RequestLaws.{good_room}
 use Rattle.requests.proofs.FlagLaws.{flag_turn}
 use Rattle.histories.specs.Cards.{OneResult, done, refused, card_date, pointers_in, pointers_of, free_in, Create, CreateCell, label, blank, fresh, FreshBooks, plain_file, one_d, with_file, with_fixed, with_cell}
 use Rattle.histories.proofs.CreateAnswers.{bare_good, create_done, create_no_room}
+use Rattle.tables.specs.declared.refusal.Refusal.TheVariants.{AlreadyMounted, NoRoom}
 
 -- ---- the views
 
@@ -129,7 +129,7 @@ pub record Starts (len z : ℕ) : Type 0 where
   pub promised : FreshBooks len z
 
 module _ (len z : ℕ) (whole : len % 1024 ≡ 0) (long : 5120 ≤ len) (small : len ≤ 1048576) (least : 3 ≤ z) (most : z ≤ 256) (end : (fresh_places z 8).indextable + 1024 ≤ len) where
-  blank_formatted : (b : List ℕ) → length b ≡ len → Formatted b (Is z) (Is 8) label 0 (blank len z)
+  blank_formatted : (b : List ℕ) → length b ≡ len → Formatted b (Some z) (Some 8) label 0 (blank len z)
   unfolding blank
   blank_formatted b e =
       let sized : Sized b = record { whole = rw e whole; least = rw e long; most = rw e small } in
@@ -140,7 +140,7 @@ module _ (len z : ℕ) (whole : len % 1024 ≡ 0) (long : 5120 ≤ len) (small :
 
   blank_good : GoodWith nothing (blank len z) (fresh_places z 8)
   blank_good = good_same (blank len z) (fresh_places z 8) (λ s. sym (none_withheld (view_of (fresh_places z 8) (blank len z)) s))
-      (formatted_good (replicate len 0) (Is z) (Is 8) label (blank len z) (blank_formatted (replicate len 0) (length-replicate {A = ℕ} len 0))).books
+      (formatted_good (replicate len 0) (Some z) (Some 8) label (blank len z) (blank_formatted (replicate len 0) (length-replicate {A = ℕ} len 0))).books
 
   -- each equation is computed
   pub start : find (λ y. ltb 0 (zone_at (fresh_places z 8) (blank len z) y).ztype) (z - 2) 2 ≡ z → first_free_of (blank len z) ≡ 1 → free_of (blank len z) ≡ 8 → flag_of (blank len z) ≡ 0
@@ -149,7 +149,7 @@ module _ (len z : ℕ) (whole : len % 1024 ≡ 0) (long : 5120 ≤ len) (small :
   start none head free flag =
       let p = fresh_places z 8 in
       let staged = staged_fresh len z 8 label long small (formattable len z least most end) label_writable none head free in
-      let mounted : Mounted (blank len z) [] 0 (fresh len z) = record { number = mount_judged (blank len z) [] 0 (judge_fine (blank len z) [] 1 6 p 0 (bare_good (blank len z) p blank_good) (sym flag) (omega arith)).1; books = refl } in
+      let mounted : Mounted (blank len z) [] 0 (fresh len z) = record { number = mount_judged (blank len z) [] 0 (judge_fine (blank len z) [] 1 AlreadyMounted p 0 (bare_good (blank len z) p blank_good) (sym flag) (omega arith)).1; books = refl } in
       record {
         usable = record {
           staged = staged_flag p (blank len z) (fresh len z) (view len z) (kept_put_u16 (blank len z) 1054 1) staged;
@@ -184,7 +184,7 @@ letters n k l =
     record { some = λ h. omega (arith, h, e); not_one = λ h. omega (arith, h, e); not_any = λ h. omega (arith, h, e) }
 
 abbrev pub AllowedNamed : List ℕ → ℕ → ℕ → Type 0
-AllowedNamed name flag size = FixedAllowed name (Is size) (Types flag) 0 card_date
+AllowedNamed name flag size = FixedAllowed name (Some size) (Some flag) 0 card_date
 
 abbrev pub Allowed : ℕ → ℕ → Type 0
 Allowed = AllowedNamed (65 ∷ [])
@@ -209,7 +209,7 @@ module _ (z : ℕ) (b : List ℕ) (w : View) (u : Usable z b w) where
   pub used : flag_of b ≢ 0
   used e = omega (arith, e, u.mounted)
 
-  pub no_room : (P : Type 0) (n : New) (counts : List ℕ) → P → roomy w counts ≡ false → OneResult (Creates (argument_tests b [] P) b counts n) (refused 12) b
+  pub no_room : (P : Type 0) (n : New) (counts : List ℕ) → P → roomy w counts ≡ false → OneResult (Creates (argument_tests b [] P) b counts n) (refused NoRoom) b
   unfolding roomy
   no_room P n counts a e = create_no_room b p P counts n u.good used a (λ h.
       (let enough = enough_ground (view_of p b) w (same_ground u.staged.same) (count_at counts) (supply_enough (view_of p b) u.staged.r2 u.staged.r3 (count_at counts) h) in
@@ -276,7 +276,7 @@ pub makes_fixed : (z : ℕ) (b : List ℕ) (w : View) (flag size : ℕ) → Usab
     → roomy w (counts_of flag size) ≡ true → leb (taken w.head (counts_of flag size) (started_view w (plain_file 0 size))) w.free ≡ true
     → (id : ℕ) → w.head ≡ id → Makes z (Create b flag size) (done id) (with_fixed z b flag size) (with_fixed_view w flag size)
 unfolding with_fixed with_fixed_view
-makes_fixed z b w flag size u a = makes z b w u (Allowed flag size) (plain_file 0 size) (counts_of flag size) a (fixed_lawful (65 ∷ []) (Is size) (Types flag) 0 card_date a)
+makes_fixed z b w flag size u a = makes z b w u (Allowed flag size) (plain_file 0 size) (counts_of flag size) a (fixed_lawful (65 ∷ []) (Some size) (Some flag) 0 card_date a)
 
 -- one block of type D, once it is chosen
 pub added_D : (f : ℕ) (s : Sight) (k : Found) → choose s.view s.cursor.tail 4 ≡ k → in_turn (add_view f) (in_order one_d) s ≡ laid_view f 4 k s
@@ -297,8 +297,8 @@ module _ (w : View) (k : Found) (h : ℕ) (block : choose (started_view w (plain
   unfolding with_cell cell_type block_bytes in_order only_if
   makes_cell z b u room tables id e =
       let file = (allowed 1 4 1 (omega arith) (omega arith) refl (omega arith) (omega arith) (omega arith) (omega arith)).file in
-      let a : VariableAllowed (65 ∷ []) (Is 4096) 0 card_date = record { file = file; cell' = record { low = omega arith; high = omega arith } } in
-      let m = makes z b w u (VariableAllowed (65 ∷ []) (Is 4096) 0 card_date) (plain_file 1 0) one_d a (variable_lawful (65 ∷ []) (Is 4096) 0 card_date a) refl room tables id e in
+      let a : VariableAllowed (65 ∷ []) (Some 4096) 0 card_date = record { file = file; cell' = record { low = omega arith; high = omega arith } } in
+      let m = makes z b w u (VariableAllowed (65 ∷ []) (Some 4096) 0 card_date) (plain_file 1 0) one_d a (variable_lawful (65 ∷ []) (Some 4096) 0 card_date a) refl room tables id e in
       record { usable = rw cell_view at m.usable; result = m.result }
 
 -- ---- a table and a zone of the books are the view's

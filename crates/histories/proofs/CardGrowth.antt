@@ -1,4 +1,5 @@
 -- Books of the bench cards with a file grown, and views that compute and show them.
+use Rattle.std.specs.Prelude.{Some}
 use mathlib.Core.Path.{◌≡◌, refl, sym, ap, ◌∙◌}
 use mathlib.Core.Bool.{true}
 use mathlib.Core.List.{List, []}
@@ -27,7 +28,6 @@ use Rattle.allocation.specs.Choice.{in_order, in_turn, choose}
 use Rattle.allocation.specs.Last.{cursor_of}
 use Rattle.allocation.specs.MadeFiles.{ProvidedWith, blocks_for}
 use Rattle.allocation.proofs.FileLaws.{length_only}
-use Rattle.requests.specs.declared.amount.Amount.TheVariants.{Is}
 use Rattle.requests.specs.Grow.{GrowAllowed, grow_counts}
 use Rattle.requests.proofs.CreateKeeps.{grew_keeps}
 use Rattle.requests.proofs.LongerLaws.{counts_are}
@@ -106,7 +106,7 @@ module _ (z : ℕ) (b : List ℕ) (w : View) (u : Usable z b w) (f long : ℕ) (
   has : ProvidedWith nothing p b (cursor_of p b f).tail one_d
   has = rw (sight_cursor p b w f u.staged.same u.good.lawful.r5 parent) at (provided z b w u f one_d (sight_of w f) ground six g.room g.tables)
 
-  allowed : GrowAllowed (Is long) card_date
+  allowed : GrowAllowed (Some long) card_date
   allowed = record { long' = few; date' = valid_date }
 
   result : OneResult (GrowTo b f long) 0 (with_longer z b f long)
@@ -114,7 +114,7 @@ module _ (z : ℕ) (b : List ℕ) (w : View) (u : Usable z b w) (f long : ℕ) (
   result = grow_longer b p f long card_date one_d u.good (used z b w u) allowed parent file are has
 
   still_good : GoodWith nothing (with_longer z b f long) p
-  still_good = grew_keeps b [] f (Is long) card_date 0 _ p result.met u.good
+  still_good = grew_keeps b [] f (Some long) card_date 0 _ p result.met u.good
 
   still_mounted : flag_of (with_longer z b f long) ≡ 1
   unfolding with_longer

@@ -5,6 +5,7 @@
 -- bytes'. Its sentence on the last write stays one about data sectors; a header holds what its placing put there, but for the id, until it is
 -- replaced or its file actually deleted." "Demand 3 reads 'free, withheld, or one place of one file'": what else W7 says of withheld sectors
 -- stands in WornSectors. The terms are those of specs/History.antt.
+use Rattle.std.specs.Prelude.{Option, Result}
 use mathlib.Core.Path.{◌≡◌, refl, sym, ap, ◌∙◌}
 use mathlib.Core.Logic.{◌⊎◌, inl, inr, ⊎_elim, ◌≢◌}
 use mathlib.Core.Bool.{Bool}
@@ -31,8 +32,6 @@ use Rattle.allocation.proofs.LastLaws.{file_short}
 use Rattle.files.specs.Moves.{sector_content}
 use Rattle.files.specs.Spots.{kth_sector}
 use Rattle.files.proofs.SectorPlaceLaws.{place_one, under_place}
-use Rattle.requests.specs.declared.amount.Amount.{Amount}
-use Rattle.requests.specs.declared.answer.Answer.{Answer}
 use Rattle.requests.specs.Header.{HeaderShown}
 use Rattle.requests.specs.Read.{ReadOut}
 use Rattle.requests.specs.Show.{bytes_of, Shown}
@@ -44,6 +43,7 @@ use Rattle.histories.proofs.StepFrame.{step_lawful, step_untouched, step_bytes, 
 use Rattle.histories.proofs.HistoryLaws.{other_bytes, step_place, lawful_after, spared_stays, header_left, free_short}
 use Rattle.requests.proofs.StampLaws.{removed_restates, recovered_restates, protected_restates}
 use Rattle.histories.proofs.AlikeLaws.{SameFile, shows_same, headers_same, reads_same, wrote_same}
+use Rattle.tables.specs.declared.refusal.Refusal.{Refusal}
 
 module _ (v w : Volume) (start : LawfulVolume v) (h : History v w) where
   -- ---- "the rules still hold", and the body has its length
@@ -194,11 +194,11 @@ module _ (v w : Volume) (start : LawfulVolume v) (h : History v w) where
   data_header_apart f g k l pf pg lk ll e =
       belongs_no_header f g k l _ (record { file = pf; place = lk; here = e }) (record { file = pg; place = ll; here = refl })
 
-  module _ (x : Volume) (f : ℕ) (at many : Amount) (swap : Bool) (input date : List ℕ) (d : Does (write f at many swap input date) w x) (g : ℕ) (other : g ≢ f) where
+  module _ (x : Volume) (f : ℕ) (at many : Option ℕ) (swap : Bool) (input date : List ℕ) (d : Does (write f at many swap input date) w x) (g : ℕ) (other : g ≢ f) where
     twin : SameFile w x g
     twin = wrote_same w x still_lawful f at many swap input date d g other
 
-    pub read_same : (position long : Amount) (exchange : Bool) (out : List ℕ) (r r' : Answer) (y y' : List ℕ)
+    pub read_same : (position long : Option ℕ) (exchange : Bool) (out : List ℕ) (r r' : Result ℕ Refusal) (y y' : List ℕ)
         → ReadOut w.books w.withheld w.body g position long exchange out r y → ReadOut x.books x.withheld x.body g position long exchange out r' y' → (r ≡ r') × (y ≡ y')
     read_same position long exchange out r r' y y' a b = reads_same w x g twin position long exchange out r r' y y' a b
 

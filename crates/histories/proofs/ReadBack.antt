@@ -1,4 +1,5 @@
 -- A read after a write gives the bytes back, by the promises of both.
+use Rattle.std.specs.Prelude.{Option, Result, Ok}
 use mathlib.Core.Path.{◌≡◌, refl, sym, ap, ◌∙◌}
 use mathlib.Core.Logic.{◌≢◌}
 use mathlib.Core.Bool.{Bool, true}
@@ -20,10 +21,7 @@ use Rattle.tables.proofs.GateLaws.{gate_passes, gate_rest, gate_head, gate_front
 use Rattle.tables.proofs.WithheldLaws.{good_kept}
 use Rattle.files.specs.Moves.{filled, fetched, Movable}
 use Rattle.files.proofs.MoveLaws.{read_back}
-use Rattle.requests.specs.declared.amount.Amount.{Amount}
-use Rattle.requests.specs.declared.answer.Answer.{Answer}
-use Rattle.requests.specs.declared.answer.Answer.TheVariants.{Done}
-use Rattle.requests.specs.Answers.{number_of, use_tests, argument_tests}
+use Rattle.requests.specs.Answers.{use_tests, argument_tests}
 use Rattle.requests.specs.Body.{BodySized}
 use Rattle.requests.specs.Amounts.{amount_value}
 use Rattle.requests.specs.Grow.{lack_tests, grown_to}
@@ -39,10 +37,12 @@ use Rattle.requests.proofs.ReadLaws.{amount_wanted, read_goes, read_fine, read_d
 use Rattle.requests.proofs.WriteLaws.{asked_variable, Grown, grown_is, settle_is, write_allows, write_parent, write_within, write_lack}
 use Rattle.requests.proofs.TypesKept.{wrote_types}
 use Rattle.requests.proofs.WriteKeeps.{some_written, grown_good, settles, written_flag, wrote_asks, wrote_keeps}
+use Rattle.tables.specs.Refusals.{number_of}
+use Rattle.tables.specs.declared.refusal.Refusal.{Refusal}
 
 -- ---- the write, done, for some bytes
 
-module _ (b withheld body : List ℕ) (id : ℕ) (position long : Amount) (x : Bool) (input date : List ℕ) (r : Answer) (b' body' : List ℕ)
+module _ (b withheld body : List ℕ) (id : ℕ) (position long : Option ℕ) (x : Bool) (input date : List ℕ) (r : Result ℕ Refusal) (b' body' : List ℕ)
     (w : Wrote b withheld body id position long x input date r b' body') (done : number_of r ≡ 0) (some : whole_sectors (amount_value long) ≢ 0) where
   abbrev at : ℕ
   at = amount_value position
@@ -177,9 +177,9 @@ module _ (b withheld body : List ℕ) (id : ℕ) (position long : Amount) (x : B
         read_goes b' withheld body' id position long (length out) true 0 fine (argument_fine b' withheld true 0 used refl refl) 0 refl
         (gate_passes 15 (BodySized b' body') _ 0 sized (read_fine b' id position 0 usable refl at (end_of b' id) refl refl (omega (arith, end'))))
 
-    reads : ReadOut b' withheld body' id position long x out (Done n) (fetched (view_of p b') id (at / 1024) x body' out (n / 1024))
+    reads : ReadOut b' withheld body' id position long x out (Ok n) (fetched (view_of p b') id (at / 1024) x body' out (n / 1024))
     reads =
-        read_done b' withheld body' id position long x out 0 at (amount_value long) n p _ number refl same refl refl
+        read_done b' withheld body' id position long x out at (amount_value long) n p _ number same refl refl
         (amount_wanted b' id at (amount_value long) n (end_of b' id) refl refl (omega (arith, end'))) refl
 
     back : take n (fetched (view_of p b') id (at / 1024) x body' out (n / 1024)) ≡ take n input
@@ -189,10 +189,10 @@ module _ (b withheld body : List ℕ) (id : ℕ) (position long : Amount) (x : B
 
 -- a write that is done, of some bytes, and then a read of the same file, position, length and exchange: it is done, moves as many bytes,
 -- and they are the input's
-pub read_after_write : (b withheld body : List ℕ) (id : ℕ) (position long : Amount) (x : Bool) (input date : List ℕ) (r : Answer) (b' body' : List ℕ)
+pub read_after_write : (b withheld body : List ℕ) (id : ℕ) (position long : Option ℕ) (x : Bool) (input date : List ℕ) (r : Result ℕ Refusal) (b' body' : List ℕ)
     → Wrote b withheld body id position long x input date r b' body' → number_of r ≡ 0 → whole_sectors (amount_value long) ≢ 0 → Unprotected 8 b id
-    → (out : List ℕ) → whole_sectors (amount_value long) ≤ length out → (s : Answer) (out' : List ℕ) → ReadOut b' withheld body' id position long x out s out'
-    → (s ≡ Done (whole_sectors (amount_value long))) × (take (whole_sectors (amount_value long)) out' ≡ take (whole_sectors (amount_value long)) input)
+    → (out : List ℕ) → whole_sectors (amount_value long) ≤ length out → (s : Result ℕ Refusal) (out' : List ℕ) → ReadOut b' withheld body' id position long x out s out'
+    → (s ≡ Ok (whole_sectors (amount_value long))) × (take (whole_sectors (amount_value long)) out' ≡ take (whole_sectors (amount_value long)) input)
 read_after_write b withheld body id position long x input date r b' body' w done some readable out fits s out' h =
-    let e = read_one b' withheld body' id position long x out s (Done (whole_sectors (amount_value long))) out' _ h (reads b withheld body id position long x input date r b' body' w done some readable out fits) in
+    let e = read_one b' withheld body' id position long x out s (Ok (whole_sectors (amount_value long))) out' _ h (reads b withheld body id position long x input date r b' body' w done some readable out fits) in
     (e.0, ap (take (whole_sectors (amount_value long))) e.1 ∙ back b withheld body id position long x input date r b' body' w done some readable out fits)

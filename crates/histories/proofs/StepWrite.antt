@@ -1,5 +1,6 @@
 -- Write: it leaves the tables of other files, its file has its sectors and its header where it had them, and only the written
 -- sectors' bytes change.
+use Rattle.std.specs.Prelude.{Option, Result}
 use mathlib.Core.Path.{◌≡◌, refl, sym, ap, ◌∙◌}
 use mathlib.Core.Logic.{◌≢◌}
 use mathlib.Core.Bool.{Bool}
@@ -25,9 +26,7 @@ use Rattle.files.proofs.MoveLaws.{filled_in, filled_out}
 use Rattle.files.proofs.SectorPlaceLaws.{kth_under, place_one}
 use Rattle.files.proofs.SpotLaws.{kth_inside}
 use Rattle.files.proofs.UntouchedLaws.{untouched_refl, untouched_trans, places_refl, places_trans}
-use Rattle.requests.specs.declared.amount.Amount.{Amount}
-use Rattle.requests.specs.declared.answer.Answer.{Answer}
-use Rattle.requests.specs.Answers.{after, number_of}
+use Rattle.requests.specs.Answers.{after}
 use Rattle.requests.specs.Amounts.{amount_value}
 use Rattle.requests.specs.Grow.{lack_tests, grown_to}
 use Rattle.requests.specs.Moving.{whole_sectors}
@@ -39,6 +38,8 @@ use Rattle.requests.proofs.WriteKeeps.{some_written, none_written, grown, grown_
 use Rattle.histories.proofs.StepLeaves.{Leaves, leaves_at, leaves_done, header_refl, header_trans, header_done}
 use Rattle.histories.proofs.StepState.{restates_frame}
 use Rattle.histories.proofs.StepGrow.{longer_frame}
+use Rattle.tables.specs.Refusals.{number_of}
+use Rattle.tables.specs.declared.refusal.Refusal.{Refusal}
 
 -- ---- the books
 
@@ -72,7 +73,7 @@ module _ (b : List ℕ) {extra : ℕ → ℕ} (g : GoodWith extra b (places_of b
 
 -- ---- the request
 
-module _ (v v' : Volume) (id : ℕ) (position long : Amount) (x : Bool) (input date : List ℕ) (r : Answer)
+module _ (v v' : Volume) (id : ℕ) (position long : Option ℕ) (x : Bool) (input date : List ℕ) (r : Result ℕ Refusal)
     (h : Wrote v.books v.withheld v.body id position long x input date r v'.books v'.body) where
   abbrev at : ℕ
   at = amount_value position

@@ -1,10 +1,9 @@
 -- The bench cards, one table: counts per zone type, and what the promises of format, mount, both creates, grow, both deletes and read allow;
 -- no block is withheld. Proved by `cards` of proofs/BenchCards.antt.
-use Rattle.std.specs.Prelude.{◌≡◌, List, [], ◌∷◌, Bool, ℕ, zero, suc, ◌+◌, ◌*◌, ◌≤◌, length, replicate}
+use Rattle.std.specs.Prelude.{◌≡◌, List, [], ◌∷◌, Bool, ℕ, zero, suc, ◌+◌, ◌*◌, ◌≤◌, length, replicate, Some, Result, Ok, Err}
 use Rattle.tables.specs.Sector1.{put_flag}
 use Rattle.field.specs.Parts.{over}
 use Rattle.tables.specs.declared.index.Pointer.{Pointer}
-use Rattle.tables.specs.declared.counts.Chosen.TheVariants.{Types}
 use Rattle.tables.specs.Places.{places_of}
 use Rattle.tables.specs.Zones.{zone_at}
 use Rattle.tables.specs.Indexes.{base_of, pointer_at}
@@ -15,20 +14,19 @@ use Rattle.allocation.specs.NewTables.{New}
 use Rattle.allocation.specs.MadeFiles.{only_counts, created, grown}
 use Rattle.files.specs.Moves.{moved, sector_content}
 use Rattle.files.specs.Release.{released}
-use Rattle.requests.specs.declared.amount.Amount.TheVariants.{Is}
-use Rattle.requests.specs.declared.answer.Answer.{Answer}
-use Rattle.requests.specs.declared.answer.Answer.TheVariants.{Done, Refused}
 use Rattle.requests.specs.Body.{BodySized}
 use Rattle.requests.specs.Format.{Formatted}
 use Rattle.requests.specs.Mount.{Mounted}
 use Rattle.requests.specs.Named.{file_bytes}
 use Rattle.requests.specs.Moving.{whole_sectors}
 use Rattle.requests.specs.Read.{ReadOut}
-use Rattle.requests.specs.declared.create.Created.{Created}
-use Rattle.requests.specs.Create.{answer_of, attribute_for, CreatedFixed, CreatedVariable}
+use Rattle.requests.specs.Create.{attribute_for, CreatedFixed, CreatedVariable}
 use Rattle.requests.specs.Grow.{Grew}
 use Rattle.requests.specs.State.{removed, Removed}
 use Rattle.requests.specs.Delete.{Deleted}
+use Rattle.tables.specs.declared.refusal.Refusal.{Refusal}
+use Rattle.tables.specs.declared.refusal.Refusal.TheVariants.{NoRoom, PastEnd, BadArgument}
+use Rattle.tables.specs.declared.kinds.Index.{Index}
 
 -- what a promise allows: the answer r with x in the lent buffer afterwards, and nothing else
 pub record OneResult {R : Type 0} (P : R → List ℕ → Type 0) (r : R) (x : List ℕ) : Type 0 where
@@ -36,11 +34,11 @@ pub record OneResult {R : Type 0} (P : R → List ℕ → Type 0) (r : R) (x : L
   pub only : (s : R) (y : List ℕ) → P s y → (s ≡ r) × (y ≡ x)
 
 -- the answers of a create
-abbrev pub done : ℕ → Created
-done id = answer_of 0 id
+abbrev pub done : ℕ → Result Index Refusal
+done id = Ok (record { 0 = id })
 
-abbrev pub refused : ℕ → Created
-refused n = answer_of n 0
+abbrev pub refused : Refusal → Result Index Refusal
+refused why = Err why
 
 -- ---- what the cards read
 
@@ -71,25 +69,25 @@ abbrev pub run : ℕ → ℕ → Pointer
 run s c = record { start = record { 0 = s }; count = c }
 
 -- create fixed of a plain file, its blocks of the types of the flag: 252 is all six, the default, 128 is H, 4 is C
-abbrev pub CreateNamed : List ℕ → List ℕ → ℕ → ℕ → Created → List ℕ → Type 0
-CreateNamed name b flag size = CreatedFixed b [] name (Is size) (Types flag) 0 card_date
+abbrev pub CreateNamed : List ℕ → List ℕ → ℕ → ℕ → Result Index Refusal → List ℕ → Type 0
+CreateNamed name b flag size = CreatedFixed b [] name (Some size) (Some flag) 0 card_date
 
 -- named A
-abbrev pub Create : List ℕ → ℕ → ℕ → Created → List ℕ → Type 0
+abbrev pub Create : List ℕ → ℕ → ℕ → Result Index Refusal → List ℕ → Type 0
 Create = CreateNamed (65 ∷ [])
 
 -- create variable of a plain file named A, its cell of so many bytes
-abbrev pub CreateCell : List ℕ → ℕ → Created → List ℕ → Type 0
-CreateCell b cell = CreatedVariable b [] (65 ∷ []) (Is cell) 0 card_date
+abbrev pub CreateCell : List ℕ → ℕ → Result Index Refusal → List ℕ → Type 0
+CreateCell b cell = CreatedVariable b [] (65 ∷ []) (Some cell) 0 card_date
 
 -- grow of file id to so many bytes
 abbrev pub GrowTo : List ℕ → ℕ → ℕ → ℕ → List ℕ → Type 0
-GrowTo b id long = Grew b [] id (Is long) card_date
+GrowTo b id long = Grew b [] id (Some long) card_date
 
 -- read of file 1 at a position, of a wanted length: the one result, whatever body and buffer of enough bytes are lent
-abbrev pub ReadGives : List ℕ → ℕ → ℕ → Answer → (Bool → List ℕ → List ℕ → List ℕ) → Type 0
+abbrev pub ReadGives : List ℕ → ℕ → ℕ → Result ℕ Refusal → (Bool → List ℕ → List ℕ → List ℕ) → Type 0
 ReadGives b at long r output = (exchange : Bool) (body out : List ℕ) → BodySized b body → whole_sectors long ≤ length out
-    → OneResult (ReadOut b [] body 1 (Is at) (Is long) exchange out) r (output exchange body out)
+    → OneResult (ReadOut b [] body 1 (Some at) (Some long) exchange out) r (output exchange body out)
 
 -- temporary delete of file id: whatever body of the right length is lent, the one result is 0 with these books, and the body as it was
 abbrev pub RemoveGives : List ℕ → ℕ → List ℕ → Type 0
@@ -117,7 +115,7 @@ fresh len z = put_flag (blank len z) 1
 
 -- these are the one result of format, whatever the books held, and then of mount
 abbrev pub FreshBooks : ℕ → ℕ → Type 0
-FreshBooks len z = (b : List ℕ) → length b ≡ len → OneResult (Formatted b (Is z) (Is 8) label) 0 (blank len z) × OneResult (Mounted (blank len z) []) 0 (fresh len z)
+FreshBooks len z = (b : List ℕ) → length b ≡ len → OneResult (Formatted b (Some z) (Some 8) label) 0 (blank len z) × OneResult (Mounted (blank len z) []) 0 (fresh len z)
 
 -- a plain file of n bytes, of variable size where `variable` is 1 and not 0
 unfoldable pub plain_file : ℕ → ℕ → New
@@ -209,19 +207,19 @@ pub record Cards : Type 0 where
   -- "P6 then 1 byte: (2049,1)."
   pub p6 : OneResult (Create after5 252 1) (done 2) after6 × (pointers_of after6 2 ≡ run 2049 1 ∷ [])
   -- "P7 then 20,480 bytes default: 12."
-  pub p7 : OneResult (Create after6 252 20480) (refused 12) after6
+  pub p7 : OneResult (Create after6 252 20480) (refused NoRoom) after6
   -- "P8 with C alone: (2050,20)."
   pub p8 : OneResult (Create after6 4 20480) (done 3) after8 × (pointers_of after8 3 ≡ run 2050 20 ∷ [])
   -- "P9 Z=3, fresh: 5,000 bytes default: 12; with C: (1024,5)."
-  pub p9 : OneResult (Create (fresh 5120 3) 252 5000) (refused 12) (fresh 5120 3)
+  pub p9 : OneResult (Create (fresh 5120 3) 252 5000) (refused NoRoom) (fresh 5120 3)
       × OneResult (Create (fresh 5120 3) 4 5000) (done 1) after9
       × (pointers_of after9 1 ≡ run 1024 5 ∷ [])
   -- "P10 Z=36, 33,554,432 bytes, H: (1024,31744), (32768,1024)."
   pub p10 : OneResult (Create (fresh 9216 36) 128 33554432) (done 1) after10 × (pointers_of after10 1 ≡ run 1024 31744 ∷ run 32768 1024 ∷ [])
   -- "P11 After P5, read at 4,096 of 2,048: 1,024 bytes from sector 2048; at 5,120: 14; 1,023 wanted at 0: done, 0 bytes."
-  pub p11 : ReadGives after5 4096 2048 (Done 1024) (λ exchange body out. over out 0 (moved exchange (sector_content body 2048)))
-      × ReadGives after5 5120 2048 (Refused 14) (λ exchange body out. out)
-      × ReadGives after5 0 1023 (Done 0) (λ exchange body out. out)
+  pub p11 : ReadGives after5 4096 2048 (Ok 1024) (λ exchange body out. over out 0 (moved exchange (sector_content body 2048)))
+      × ReadGives after5 5120 2048 (Err PastEnd) (λ exchange body out. out)
+      × ReadGives after5 0 1023 (Ok 0) (λ exchange body out. out)
   -- "two interleaved growing files are to be added as a case" (W4). Z=4, fresh, cells of 4,096 bytes, both grown to 8,192 in turn: each finds
   -- the other's block behind its end, and gets the lowest free one
   pub p12 : OneResult (CreateCell (fresh 5120 4) 4096) (done 1) begun1
@@ -241,4 +239,4 @@ pub record Cards : Type 0 where
       × (free_in joined2 2 ≡ 253)
   -- "Name of 24: taken; of 25: 7."
   pub names : ((b : List ℕ) × OneResult (CreateNamed (replicate 24 65) (fresh 5120 4) 252 5000) (done 1) b)
-      × OneResult (CreateNamed (replicate 25 65) (fresh 5120 4) 252 5000) (refused 7) (fresh 5120 4)
+      × OneResult (CreateNamed (replicate 25 65) (fresh 5120 4) 252 5000) (refused BadArgument) (fresh 5120 4)

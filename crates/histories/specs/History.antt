@@ -1,7 +1,6 @@
 -- A volume and what requests make of it: the terms of demand 3. A step is what the public promise of its request says, refusals and reading
 -- requests included; format is no step.
-use Rattle.std.specs.Prelude.{◌≡◌, Bool, List, ℕ, ◌+◌, ◌-◌, ◌/◌, ◌≤◌, ◌<◌, drop}
-use Rattle.tables.specs.declared.counts.Chosen.{Chosen}
+use Rattle.std.specs.Prelude.{◌≡◌, Bool, List, ℕ, ◌+◌, ◌-◌, ◌/◌, ◌≤◌, ◌<◌, drop, Option, Result}
 use Rattle.tables.specs.Books.{book_tests}
 use Rattle.tables.specs.Gates.{Gate}
 use Rattle.tables.specs.Indexes.{header_start, header_count}
@@ -12,14 +11,8 @@ use Rattle.files.specs.HeaderBytes.{header_bytes}
 use Rattle.files.specs.Moves.{moved, sector_content, sectors_content, buffer_sector}
 use Rattle.files.specs.Spots.{kth_sector}
 use Rattle.files.specs.Unchanged.{HeaderKept}
-use Rattle.requests.specs.declared.amount.Amount.{Amount}
-use Rattle.requests.specs.declared.answer.Answer.{Answer}
-use Rattle.requests.specs.declared.broken_rule.Diagnosis.{Diagnosis}
-use Rattle.requests.specs.declared.create.Created.{Created}
-use Rattle.requests.specs.declared.locate.Located.{Located}
-use Rattle.requests.specs.declared.report.Text.{Text}
+use Rattle.requests.specs.declared.text.Text.{Text}
 use Rattle.requests.specs.declared.space.Space.{Space}
-use Rattle.requests.specs.Answers.{number_of}
 use Rattle.requests.specs.Body.{BodySized}
 use Rattle.requests.specs.Create.{CreatedFixed, CreatedVariable}
 use Rattle.requests.specs.Delete.{Deleted}
@@ -37,6 +30,11 @@ use Rattle.requests.specs.Show.{show_tests, Shown}
 use Rattle.requests.specs.Space.{Spaced}
 use Rattle.requests.specs.State.{Removed, Recovered, Protected}
 use Rattle.requests.specs.Write.{Wrote}
+use Rattle.tables.specs.Refusals.{number_of}
+use Rattle.tables.specs.declared.refusal.Refusal.{Refusal}
+use Rattle.tables.specs.declared.kinds.Index.{Index}
+use Rattle.tables.specs.declared.kinds.Sector.{Sector}
+use Rattle.examination.specs.declared.fault.Fault.{Fault}
 
 -- ---- a volume
 
@@ -66,24 +64,24 @@ pub data Question : Type 0 where
   show_number : (id k : ℕ) → Question
   show_header : (id : ℕ) → Question
   header_number : (id : ℕ) → Question
-  read : (id : ℕ) (position long : Amount) (exchange : Bool) (out : List ℕ) → Question
+  read : (id : ℕ) (position long : Option ℕ) (exchange : Bool) (out : List ℕ) → Question
   space : Question
   report : Question
   broken_rule : Question
   broken_text : Question
 
 abbrev pub Answers : Question → Volume → Type 0
-Answers (search pattern ids) v = (r : Answer) × (ids' : List ℕ) × Searched v.books v.withheld pattern ids r ids'
-Answers (list from entries) v = (r : Answer) × (entries' : List ℕ) × Listed v.books v.withheld from entries r entries'
-Answers (locate id k) v = (r : Located) × Locates v.books v.withheld id k r
+Answers (search pattern ids) v = (r : Result ℕ Refusal) × (ids' : List ℕ) × Searched v.books v.withheld pattern ids r ids'
+Answers (list from entries) v = (r : Result ℕ Refusal) × (entries' : List ℕ) × Listed v.books v.withheld from entries r entries'
+Answers (locate id k) v = (r : Result Sector Refusal) × Locates v.books v.withheld id k r
 Answers (show id k) v = (part : List ℕ) × Shown v.books v.withheld v.body id k part
 Answers (show_number id k) v = (r : ℕ) × Gate (show_tests v.books v.withheld v.body id k) r
 Answers (show_header id) v = (part : List ℕ) × HeaderShown v.books v.withheld v.body id part
 Answers (header_number id) v = (r : ℕ) × Gate (show_header_tests v.books v.withheld v.body id) r
-Answers (read id position long exchange out) v = (r : Answer) × (out' : List ℕ) × ReadOut v.books v.withheld v.body id position long exchange out r out'
-Answers space v = (r : Space) × Spaced v.books v.withheld r
+Answers (read id position long exchange out) v = (r : Result ℕ Refusal) × (out' : List ℕ) × ReadOut v.books v.withheld v.body id position long exchange out r out'
+Answers space v = (r : Result Space Refusal) × Spaced v.books v.withheld r
 Answers report v = (r : Text) × Reported v.books v.withheld r
-Answers broken_rule v = (r : Diagnosis) × Diagnosed v.books v.withheld r
+Answers broken_rule v = (r : Result (Option Fault) Refusal) × Diagnosed v.books v.withheld r
 Answers broken_text v = (r : Text) × DiagnosisText v.books v.withheld r
 
 -- these, and those that may change it
@@ -91,15 +89,15 @@ pub data Request : Type 0 where
   looks : Question → Request
   mount : Request
   dismount : Request
-  create_fixed : (name : List ℕ) (size : Amount) (types : Chosen) (kind : ℕ) (date : List ℕ) → Request
-  create_variable : (name : List ℕ) (cell : Amount) (kind : ℕ) (date : List ℕ) → Request
-  grow : (id : ℕ) (long : Amount) (date : List ℕ) → Request
+  create_fixed : (name : List ℕ) (size : Option ℕ) (types : Option ℕ) (kind : ℕ) (date : List ℕ) → Request
+  create_variable : (name : List ℕ) (cell : Option ℕ) (kind : ℕ) (date : List ℕ) → Request
+  grow : (id : ℕ) (long : Option ℕ) (date : List ℕ) → Request
   temporary_delete : (id : ℕ) (date : List ℕ) → Request
   recover : (id : ℕ) (date : List ℕ) → Request
   actual_delete : (id : ℕ) (date : List ℕ) → Request
   set_protection : (id w : ℕ) (date : List ℕ) → Request
   place_header : (id : ℕ) (content date : List ℕ) → Request
-  write : (id : ℕ) (position long : Amount) (exchange : Bool) (input date : List ℕ) → Request
+  write : (id : ℕ) (position long : Option ℕ) (exchange : Bool) (input date : List ℕ) → Request
 
 -- a request that is lent the books alone: its promise P is about them, and the body stays; so does the list, with every request
 pub record BooksOnly (P : List ℕ → List ℕ → Type 0) (v v' : Volume) : Type 0 where
@@ -117,15 +115,15 @@ abbrev pub Does : Request → Volume → Volume → Type 0
 Does (looks q) v v' = Answers q v × (v' ≡ v)
 Does mount v v' = (r : ℕ) × BooksOnly (λ b b'. Mounted b v.withheld r b') v v'
 Does dismount v v' = (r : ℕ) × BooksOnly (λ b b'. Dismounted b v.withheld r b') v v'
-Does (create_fixed name size types kind date) v v' = (r : Created) × BooksOnly (λ b b'. CreatedFixed b v.withheld name size types kind date r b') v v'
-Does (create_variable name cell kind date) v v' = (r : Created) × BooksOnly (λ b b'. CreatedVariable b v.withheld name cell kind date r b') v v'
+Does (create_fixed name size types kind date) v v' = (r : Result Index Refusal) × BooksOnly (λ b b'. CreatedFixed b v.withheld name size types kind date r b') v v'
+Does (create_variable name cell kind date) v v' = (r : Result Index Refusal) × BooksOnly (λ b b'. CreatedVariable b v.withheld name cell kind date r b') v v'
 Does (grow id long date) v v' = (r : ℕ) × BooksOnly (λ b b'. Grew b v.withheld id long date r b') v v'
 Does (temporary_delete id date) v v' = (r : ℕ) × BodyToo (λ b body b' body'. Removed b v.withheld body id date r b' body') v v'
 Does (recover id date) v v' = (r : ℕ) × BodyToo (λ b body b' body'. Recovered b v.withheld body id date r b' body') v v'
 Does (actual_delete id date) v v' = (r : ℕ) × BodyToo (λ b body b' body'. Deleted b v.withheld body id date r b' body') v v'
 Does (set_protection id w date) v v' = (r : ℕ) × BooksOnly (λ b b'. Protected b v.withheld id w date r b') v v'
 Does (place_header id content date) v v' = (r : ℕ) × BodyToo (λ b body b' body'. HeaderPlaced b v.withheld body id content date r b' body') v v'
-Does (write id position long exchange input date) v v' = (r : Answer) × BodyToo (λ b body b' body'. Wrote b v.withheld body id position long exchange input date r b' body') v v'
+Does (write id position long exchange input date) v v' = (r : Result ℕ Refusal) × BodyToo (λ b body b' body'. Wrote b v.withheld body id position long exchange input date r b' body') v v'
 
 -- ---- histories
 
@@ -176,7 +174,7 @@ abbrev pub header_of : Volume → ℕ → List ℕ
 header_of v f = sectors_content v.body (header_start ((seen v).table f)) (header_count ((seen v).table f))
 
 -- a write that is done puts these bytes at place k of file f
-pub record Puts (id : ℕ) (position long : Amount) (exchange : Bool) (input : List ℕ) (r : Answer) (f k : ℕ) (bytes : List ℕ) : Type 0 where
+pub record Puts (id : ℕ) (position long : Option ℕ) (exchange : Bool) (input : List ℕ) (r : Result ℕ Refusal) (f k : ℕ) (bytes : List ℕ) : Type 0 where
   pub file : id ≡ f
   pub done : number_of r ≡ 0
   pub from : amount_value position / 1024 ≤ k

@@ -1,74 +1,54 @@
 -- The C border: what a request answered, handed back by number, pointer and buffer.
+use Rattle.std.specs.Prelude.{Option, Result}
 use mathlib.Core.Path.{◌≡◌, refl, sym, ap, ◌∙◌}
 use mathlib.Core.Bool.{Bool}
 use mathlib.Core.List.{List}
 use Prim.Native.Nat.{ℕ, ◌≤◌, ◌<◌}
 use native.Mathlib.Decide.{dec_lt}
 use native.Mathlib.Omega.{arith}
-use lib.ListN.{length, take}
+use lib.ListN.{length}
 use lib.IntN.{ℤ}
 use Rattle.field.specs.Parts.{over}
 use Rattle.tables.specs.declared.kinds.Sector.{Sector}
-use Rattle.requests.specs.declared.answer.Answer.{Answer}
 use Rattle.examination.specs.declared.fault.Fault.{Fault}
 use Rattle.examination.specs.Faults.{rule_of, place_kind_of, fault_place}
-use Rattle.requests.specs.declared.broken_rule.Diagnosis.{Diagnosis}
-use Rattle.requests.specs.declared.broken_rule.Diagnosis.TheVariants.{Found, Refused as Unexamined}
-use Rattle.requests.specs.declared.create.Created.{Created}
-use Rattle.requests.specs.declared.locate.Located.{Located}
-use Rattle.requests.specs.declared.locate.Located.TheVariants.{At, Refused as NotLocated}
 use Rattle.requests.specs.declared.space.Space.{Space}
-use Rattle.requests.specs.declared.space.Space.TheVariants.{Is, Refused}
-use Rattle.requests.specs.declared.report.Text.{Text}
-use Rattle.requests.specs.declared.amount.Amount.{Amount}
 use Rattle.tables.specs.Format.{Label}
 use Rattle.requests.specs.Amounts.{amount_of}
 use Rattle.requests.specs.Format.{Formatted}
 use Rattle.tables.specs.Gates.{Test}
 use Rattle.tables.specs.Books.{book_tests}
 use Rattle.tables.proofs.GateLaws.{gate_one}
-use Rattle.requests.specs.Space.{Spaced, number_of, sectors_value, used_value}
+use Rattle.requests.specs.Space.{sectors_value, used_value}
+use Rattle.tables.specs.Refusals.{number_of}
+use Rattle.tables.specs.declared.refusal.Refusal.{Refusal}
 use Rattle.requests.proofs.SpaceLaws.{spaced_one}
-use Rattle.requests.specs.Report.{report_of, as_text, Reported}
-use Rattle.requests.proofs.ReportLaws.{text_length, text_part, text_fits, text_count}
-use Rattle.requests.specs.Diagnosis.{number_of as diagnosis_number, rule_value, kind_value, place_value, Diagnosed, diagnosis_lines, DiagnosisText}
+use Rattle.requests.specs.Report.{report_of, Reported}
+use Rattle.requests.specs.Diagnosis.{rule_value, kind_value, place_value, Diagnosed, diagnosis_lines, DiagnosisText}
 use Rattle.requests.proofs.DiagnosisLaws.{diagnosed_one}
-use Rattle.tables.specs.declared.counts.Chosen.{Chosen}
-use Rattle.tables.specs.Counts.{chosen_types}
 use Rattle.allocation.specs.NewTables.{New}
-use Rattle.requests.specs.Create.{number_of as created_number, id_value, Creates, CreatedFixed, CreatedVariable}
+use Rattle.requests.specs.Create.{id_value, Creates}
 use Rattle.requests.proofs.CreateLaws.{creates_one}
-use Rattle.requests.specs.Grow.{Grew}
-use Rattle.requests.specs.Answers.{number_of as answer_number, value_of}
+use Rattle.requests.specs.Answers.{value_of}
 use Rattle.requests.specs.Search.{Searched}
 use Rattle.requests.proofs.SearchRequestLaws.{searched_one}
 use Rattle.requests.specs.Listing.{Listed}
 use Rattle.requests.proofs.ListLaws.{listed_one}
-use Rattle.requests.specs.Locate.{number_of as located_number, sector_value, Locates}
+use Rattle.requests.specs.Locate.{sector_value}
 use Rattle.requests.proofs.LocateLaws.{located_one}
 use Rattle.requests.specs.Read.{ReadOut}
 use Rattle.requests.proofs.ReadLaws.{read_one as read_out_one}
 use Rattle.requests.specs.Write.{Wrote}
 use Rattle.requests.proofs.WriteLaws.{wrote_one}
-use Rattle.isc.specs.Border.{AnswerOut, CreateOut, LocateOut, SpaceOut, BrokenOut, Lines, TextOut, TextRoom, ReportLines, BrokenLines}
-
-pub space_is : (b withheld : List ℕ) (found : Space) (s u : ℕ) → Spaced b withheld found → found ≡ Is s u → SpaceOut b withheld 0 s u
-space_is b withheld found s u h e = record { answer = Is s u; spaced = rw e at h; number = refl; all = refl; taken = refl }
-
-pub space_no : (b withheld : List ℕ) (found : Space) (n : ℕ) → Spaced b withheld found → found ≡ Refused n → SpaceOut b withheld n 0 0
-space_no b withheld found n h e = record { answer = Refused n; spaced = rw e at h; number = refl; all = refl; taken = refl }
+use Rattle.isc.specs.Border.{AnswerOut, CreateOut, LocateOut, SpaceOut, BrokenOut, Lines, TextOut, ReportLines, BrokenLines}
 
 -- ---- texts
 
 module _ (least : ℕ) (P : List ℕ → Type 0) (text : List ℕ) where
-  pub text_short : length text < least → TextOut least P text 7 text 0
-  text_short h = record { refused = λ l. (refl, refl, refl); written = λ l. absurd (omega arith) }
-
-  text_written : (text' xs : List ℕ) (t : Text) (r len : ℕ) → least ≤ length text → P xs → t ≡ as_text xs
-      → (r ≡ 0) × (text' ≡ over text 0 (take t.length t.bytes)) × (len ≡ t.length) → TextOut least P text r text' len
+  text_written : (text' xs t : List ℕ) (r len : ℕ) → least ≤ length text → P xs → t ≡ xs → (r ≡ 0) × (text' ≡ over text 0 t) × (len ≡ length t) → TextOut least P text r text' len
   text_written text' xs t r len l h is e = record {
     refused = λ s. absurd (omega arith);
-    written = λ s. record { lines = xs; holds = h; zero = e.0; bytes = e.1 ∙ ap (over text 0) (text_part xs t is); count = e.2 ∙ text_length xs t is };
+    written = λ s. record { lines = xs; holds = h; zero = e.0; bytes = e.1 ∙ ap (over text 0) is; count = e.2 ∙ ap length is };
   }
 
   -- one result, where the lines are one
@@ -84,64 +64,21 @@ module _ (least : ℕ) (P : List ℕ → Type 0) (text : List ℕ) where
           let e = one x.lines y.lines x.holds y.holds in
           (x.zero ∙ sym y.zero, x.bytes ∙ ap (over text 0) e ∙ sym y.bytes, x.count ∙ ap length e ∙ sym y.count)
 
-text_room : (xs : List ℕ) (t : Text) (room : ℕ) → t ≡ as_text xs → length xs ≤ room → length xs ≤ 192 → TextRoom t room
-text_room xs t room e l m = record { whole = text_fits xs t e; count = text_count xs t e; fits = omega (arith, text_length xs t e); few = omega (arith, text_length xs t e) }
+module _ (b withheld t : List ℕ) where
+  pub report_room : (room : ℕ) → 192 ≤ room → Reported b withheld t → length t ≤ room
+  report_room room l h = omega (arith, ap length h.text, h.short)
 
-module _ (b withheld : List ℕ) (t : Text) where
-  pub report_room : (room : ℕ) → 192 ≤ room → Reported b withheld t → TextRoom t room
-  report_room room l h = text_room (report_of h.number b) t room h.text (omega (arith, h.short)) h.short
+  pub broken_room : (room : ℕ) → 64 ≤ room → DiagnosisText b withheld t → length t ≤ room
+  broken_room room l h = omega (arith, ap length h.lines.text, h.lines.short)
 
-  pub broken_room : (room : ℕ) → 64 ≤ room → DiagnosisText b withheld t → TextRoom t room
-  broken_room room l h = text_room (diagnosis_lines h.diagnosis) t room h.lines.text (omega (arith, h.lines.short)) (omega (arith, h.lines.short))
-
-  module _ (text text' : List ℕ) (r len : ℕ) (e : (r ≡ 0) × (text' ≡ over text 0 (take t.length t.bytes)) × (len ≡ t.length)) where
+  module _ (text text' : List ℕ) (r len : ℕ) (e : (r ≡ 0) × (text' ≡ over text 0 t) × (len ≡ length t)) where
     pub report_written : 192 ≤ length text → Reported b withheld t → TextOut 192 (ReportLines b withheld) text r text' len
     report_written l h = text_written 192 (ReportLines b withheld) text text' (report_of h.number b) t r len l (record { number = h.number; gate = h.gate; is = refl }) h.text e
 
     pub broken_written : 64 ≤ length text → DiagnosisText b withheld t → TextOut 64 (BrokenLines b withheld) text r text' len
     broken_written l h = text_written 64 (BrokenLines b withheld) text text' (diagnosis_lines h.diagnosis) t r len l (record { diagnosis = h.diagnosis; diagnosed = h.diagnosed; is = refl }) h.lines.text e
 
--- which rule is broken, arm by arm
-module _ (b withheld : List ℕ) (d : Diagnosis) (h : Diagnosed b withheld d) where
-  pub broken_found : (f : Fault) (rule kind place : ℕ) → d ≡ Found f → rule ≡ rule_of f → kind ≡ place_kind_of f → place ≡ fault_place f → BrokenOut b withheld 0 rule kind place
-  broken_found f rule kind place e x y z = record { answer = Found f; diagnosed = rw e at h; number = refl; broken = x; sort = y; place' = z }
-
-  pub broken_refused : (n : ℕ) → d ≡ Unexamined n → BrokenOut b withheld n 0 0 0
-  broken_refused n e = record { answer = Unexamined n; diagnosed = rw e at h; number = refl; broken = refl; sort = refl; place' = refl }
-
--- signed arguments, taken apart
-pub format_border : (b b' : List ℕ) (x y : ℤ) (z n : Amount) (l : Label) (r : ℕ) → z ≡ amount_of x → n ≡ amount_of y → Formatted b z n l r b' → Formatted b (amount_of x) (amount_of y) l r b'
-format_border b b' x y z n l r e f h = rw (← e, ← f) h
-
--- a create's promise with the number and the id that `hand_back_id` gives
-pub create_out : (P : Created → Type 0) (made : Created) (r id : ℕ) → P made → (r ≡ created_number made) × (id ≡ id_value made) → CreateOut P r id
-create_out P made r id h e = record { answer = made; holds = h; number = e.0; value = e.1 }
-
-pub fixed_border : (b withheld b' name date : List ℕ) (x flag : ℤ) (kind : ℕ) (size : Amount) (types : Chosen) (made : Created) → size ≡ amount_of x → types ≡ chosen_types flag → CreatedFixed b withheld name size types kind date made b' → CreatedFixed b withheld name (amount_of x) (chosen_types flag) kind date made b'
-fixed_border b withheld b' name date x flag kind size types made e d h = rw (← e, ← d) h
-
-pub variable_border : (b withheld b' name date : List ℕ) (x : ℤ) (kind : ℕ) (cell : Amount) (made : Created) → cell ≡ amount_of x → CreatedVariable b withheld name cell kind date made b' → CreatedVariable b withheld name (amount_of x) kind date made b'
-variable_border b withheld b' name date x kind cell made e h = rw (← e) h
-
-pub grow_border : (b withheld b' date : List ℕ) (id : ℕ) (x : ℤ) (long : Amount) (r : ℕ) → long ≡ amount_of x → Grew b withheld id long date r b' → Grew b withheld id (amount_of x) date r b'
-grow_border b withheld b' date id x long r e h = rw (← e) h
-
-pub locate_at : (b withheld : List ℕ) (id k : ℕ) (found : Located) (s : Sector) → Locates b withheld id k found → found ≡ At s → LocateOut b withheld id k 0 s.0
-locate_at b withheld id k found s h e = record { answer = At s; locates = rw e at h; number = refl; value = refl }
-
-pub locate_no : (b withheld : List ℕ) (id k : ℕ) (found : Located) (n : ℕ) → Locates b withheld id k found → found ≡ NotLocated n → LocateOut b withheld id k n 0
-locate_no b withheld id k found n h e = record { answer = NotLocated n; locates = rw e at h; number = refl; value = refl }
-
--- a request's promise with the number and the value that `hand_back` gives
-pub answer_out : (P : Answer → Type 0) (answer : Answer) (r value : ℕ) → P answer → (r ≡ answer_number answer) × (value ≡ value_of answer) → AnswerOut P r value
-answer_out P answer r value h e = record { answer = answer; holds = h; number = e.0; one = e.1 }
-
-pub read_border : (b withheld body out out' : List ℕ) (id : ℕ) (x y : ℤ) (at long : Amount) (exchange : Bool) (r : Answer) → at ≡ amount_of x → long ≡ amount_of y → ReadOut b withheld body id at long exchange out r out' → ReadOut b withheld body id (amount_of x) (amount_of y) exchange out r out'
-read_border b withheld body out out' id x y at long exchange r e f h = rw (← e, ← f) h
-
-pub write_border : (b withheld b' body body' input date : List ℕ) (id : ℕ) (x y : ℤ) (at long : Amount) (exchange : Bool) (r : Answer) → at ≡ amount_of x → long ≡ amount_of y
-    → Wrote b withheld body id at long exchange input date r b' body' → Wrote b withheld body id (amount_of x) (amount_of y) exchange input date r b' body'
-write_border b withheld b' body body' input date id x y at long exchange r e f h = rw (← e, ← f) h
+-- ---- the values handed back, zeros beside a refusal
 
 -- ---- one result
 
@@ -149,13 +86,13 @@ pub create_one : (tests : List Test) (b counts : List ℕ) (new : New) (x y : Li
     → CreateOut (λ answer. Creates tests b counts new answer x) r id → CreateOut (λ answer. Creates tests b counts new answer y) r' id' → (r ≡ r') × (id ≡ id') × (x ≡ y)
 create_one tests b counts new x y r r' id id' h k =
     let e = creates_one tests b counts new h.answer k.answer x y h.holds k.holds in
-    (h.number ∙ ap created_number e.0 ∙ sym k.number, h.value ∙ ap id_value e.0 ∙ sym k.value, e.1)
+    (h.number ∙ ap number_of e.0 ∙ sym k.number, h.value ∙ ap id_value e.0 ∙ sym k.value, e.1)
 
 -- promises P and Q that allow one answer, and S of what else they leave
-pub answer_one : (P Q : Answer → Type 0) (S : Type 0) (r r' v v' : ℕ) → ((x y : Answer) → P x → Q y → (x ≡ y) × S) → AnswerOut P r v → AnswerOut Q r' v' → (r ≡ r') × (v ≡ v') × S
+pub answer_one : (P Q : Result ℕ Refusal → Type 0) (S : Type 0) (r r' v v' : ℕ) → ((x y : Result ℕ Refusal) → P x → Q y → (x ≡ y) × S) → AnswerOut P r v → AnswerOut Q r' v' → (r ≡ r') × (v ≡ v') × S
 answer_one P Q S r r' v v' one h k =
     let e = one h.answer k.answer h.holds k.holds in
-    (h.number ∙ ap answer_number e.0 ∙ sym k.number, h.one ∙ ap value_of e.0 ∙ sym k.one, e.1)
+    (h.number ∙ ap number_of e.0 ∙ sym k.number, h.one ∙ ap value_of e.0 ∙ sym k.one, e.1)
 
 pub search_one : (b withheld pattern ids x y : List ℕ) (r r' n n' : ℕ)
     → AnswerOut (λ answer. Searched b withheld pattern ids answer x) r n → AnswerOut (λ answer. Searched b withheld pattern ids answer y) r' n' → (r ≡ r') × (n ≡ n') × (x ≡ y)
@@ -165,11 +102,11 @@ pub list_one : (b withheld : List ℕ) (from : ℕ) (entries x y : List ℕ) (r 
     → AnswerOut (λ answer. Listed b withheld from entries answer x) r n → AnswerOut (λ answer. Listed b withheld from entries answer y) r' n' → (r ≡ r') × (n ≡ n') × (x ≡ y)
 list_one b withheld from entries x y r r' n n' = answer_one _ _ _ r r' n n' (λ a c. listed_one b withheld from entries a c x y)
 
-pub read_one : (b withheld body : List ℕ) (id : ℕ) (at long : Amount) (exchange : Bool) (out x y : List ℕ) (r r' n n' : ℕ)
+pub read_one : (b withheld body : List ℕ) (id : ℕ) (at long : Option ℕ) (exchange : Bool) (out x y : List ℕ) (r r' n n' : ℕ)
     → AnswerOut (λ answer. ReadOut b withheld body id at long exchange out answer x) r n → AnswerOut (λ answer. ReadOut b withheld body id at long exchange out answer y) r' n' → (r ≡ r') × (n ≡ n') × (x ≡ y)
 read_one b withheld body id at long exchange out x y r r' n n' = answer_one _ _ _ r r' n n' (λ a c. read_out_one b withheld body id at long exchange out a c x y)
 
-pub write_one : (b withheld body : List ℕ) (id : ℕ) (at long : Amount) (exchange : Bool) (input date x y u w : List ℕ) (r r' n n' : ℕ)
+pub write_one : (b withheld body : List ℕ) (id : ℕ) (at long : Option ℕ) (exchange : Bool) (input date x y u w : List ℕ) (r r' n n' : ℕ)
     → AnswerOut (λ answer. Wrote b withheld body id at long exchange input date answer x u) r n → AnswerOut (λ answer. Wrote b withheld body id at long exchange input date answer y w) r' n' → (r ≡ r') × (n ≡ n') × (x ≡ y) × (u ≡ w)
 write_one b withheld body id at long exchange input date x y u w r r' n n' h k =
     let e = answer_one _ _ ((x ≡ y) × (u ≡ w)) r r' n n' (λ a c p q. let i = wrote_one b withheld body id at long exchange input date a c x y u w p q in (i.0, (i.1, i.2))) h k in
@@ -178,7 +115,7 @@ write_one b withheld body id at long exchange input date x y u w r r' n n' h k =
 pub locate_one : (b withheld : List ℕ) (id k r r' s s' : ℕ) → LocateOut b withheld id k r s → LocateOut b withheld id k r' s' → (r ≡ r') × (s ≡ s')
 locate_one b withheld id k r r' s s' h l =
     let e : h.answer ≡ l.answer = located_one b withheld id k h.answer l.answer h.locates l.locates in
-    (h.number ∙ ap located_number e ∙ sym l.number, h.value ∙ ap sector_value e ∙ sym l.value)
+    (h.number ∙ ap number_of e ∙ sym l.number, h.value ∙ ap sector_value e ∙ sym l.value)
 
 pub space_one : (b withheld : List ℕ) (r r' s s' u u' : ℕ) → SpaceOut b withheld r s u → SpaceOut b withheld r' s' u' → (r ≡ r') × (s ≡ s') × (u ≡ u')
 space_one b withheld r r' s s' u u' h k =
@@ -195,7 +132,7 @@ broken_text_one b withheld xs ys h k = h.is ∙ ap diagnosis_lines (diagnosed_on
 pub broken_one : (b withheld : List ℕ) (r r' u u' v v' w w' : ℕ) → BrokenOut b withheld r u v w → BrokenOut b withheld r' u' v' w' → (r ≡ r') × (u ≡ u') × (v ≡ v') × (w ≡ w')
 broken_one b withheld r r' u u' v v' w w' h k =
     let e = diagnosed_one b withheld h.answer k.answer h.diagnosed k.diagnosed in (
-      h.number ∙ ap diagnosis_number e ∙ sym k.number,
+      h.number ∙ ap number_of e ∙ sym k.number,
       h.broken ∙ ap rule_value e ∙ sym k.broken,
       h.sort ∙ ap kind_value e ∙ sym k.sort,
       h.place' ∙ ap place_value e ∙ sym k.place',

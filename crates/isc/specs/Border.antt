@@ -1,49 +1,49 @@
 -- What the C functions hand back beside a request's own promise: values through pointers, a text into a lent buffer.
-use Rattle.std.specs.Prelude.{◌≡◌, Bool, not, ℕ, ◌≤◌, ◌<◌, List, eqb, length, take}
+use Rattle.std.specs.Prelude.{◌≡◌, Bool, not, ℕ, ◌≤◌, ◌<◌, List, eqb, length, Option, Result}
 use Rattle.field.specs.Parts.{over}
+use Rattle.tables.specs.declared.kinds.Index.{Index}
+use Rattle.tables.specs.declared.kinds.Sector.{Sector}
+use Rattle.tables.specs.declared.refusal.Refusal.{Refusal}
 use Rattle.tables.specs.Gates.{Gate}
+use Rattle.tables.specs.Refusals.{number_of}
+use Rattle.examination.specs.declared.fault.Fault.{Fault}
 use Rattle.tables.specs.Books.{book_tests}
-use Rattle.requests.specs.declared.answer.Answer.{Answer}
-use Rattle.requests.specs.declared.broken_rule.Diagnosis.{Diagnosis}
-use Rattle.requests.specs.declared.create.Created.{Created}
-use Rattle.requests.specs.declared.locate.Located.{Located}
-use Rattle.requests.specs.declared.report.Text.{Text}
 use Rattle.requests.specs.declared.space.Space.{Space}
-use Rattle.requests.specs.Answers.{number_of as answer_number, value_of}
-use Rattle.requests.specs.Create.{number_of as created_number, id_value}
-use Rattle.requests.specs.Locate.{number_of as located_number, sector_value, Locates}
-use Rattle.requests.specs.Space.{number_of, sectors_value, used_value, Spaced}
+use Rattle.requests.specs.Answers.{value_of}
+use Rattle.requests.specs.Create.{id_value}
+use Rattle.requests.specs.Locate.{sector_value, Locates}
+use Rattle.requests.specs.Space.{sectors_value, used_value, Spaced}
 use Rattle.requests.specs.Report.{report_of}
-use Rattle.requests.specs.Diagnosis.{number_of as diagnosis_number, rule_value, kind_value, place_value, Diagnosed, diagnosis_lines}
+use Rattle.requests.specs.Diagnosis.{rule_value, kind_value, place_value, Diagnosed, diagnosis_lines}
 
 -- "`exchange` is 0 for no and anything else for yes"
 abbrev pub asked : ℕ → Bool
 asked exchange = not (eqb exchange 0)
 
 -- a request with one value, with its promise: the number and the value, 0 on a refusal
-pub record AnswerOut (promise : Answer → Type 0) (r value : ℕ) : Type 0 where
-  pub answer : Answer
+pub record AnswerOut (promise : Result ℕ Refusal → Type 0) (r value : ℕ) : Type 0 where
+  pub answer : Result ℕ Refusal
   pub holds : promise answer
-  pub number : r ≡ answer_number answer
+  pub number : r ≡ number_of answer
   pub one : value ≡ value_of answer
 
 -- a create, with its promise: the number and the new file's id, 0 on a refusal
-pub record CreateOut (promise : Created → Type 0) (r id : ℕ) : Type 0 where
-  pub answer : Created
+pub record CreateOut (promise : Result Index Refusal → Type 0) (r id : ℕ) : Type 0 where
+  pub answer : Result Index Refusal
   pub holds : promise answer
-  pub number : r ≡ created_number answer
+  pub number : r ≡ number_of answer
   pub value : id ≡ id_value answer
 
 -- locate: the number and the sector, 0 on a refusal
 pub record LocateOut (b withheld : List ℕ) (id k r sector : ℕ) : Type 0 where
-  pub answer : Located
+  pub answer : Result Sector Refusal
   pub locates : Locates b withheld id k answer
-  pub number : r ≡ located_number answer
+  pub number : r ≡ number_of answer
   pub value : sector ≡ sector_value answer
 
 -- space: the number and the values of the answer, zeros on a refusal
 pub record SpaceOut (b withheld : List ℕ) (r sectors used : ℕ) : Type 0 where
-  pub answer : Space
+  pub answer : Result Space Refusal
   pub spaced : Spaced b withheld answer
   pub number : r ≡ number_of answer
   pub all : sectors ≡ sectors_value answer
@@ -51,9 +51,9 @@ pub record SpaceOut (b withheld : List ℕ) (r sectors used : ℕ) : Type 0 wher
 
 -- which rule is broken: the number, the rule, the kind of place and the place, zeros on a refusal
 pub record BrokenOut (b withheld : List ℕ) (r rule kind place : ℕ) : Type 0 where
-  pub answer : Diagnosis
+  pub answer : Result (Option Fault) Refusal
   pub diagnosed : Diagnosed b withheld answer
-  pub number : r ≡ diagnosis_number answer
+  pub number : r ≡ number_of answer
   pub broken : rule ≡ rule_value answer
   pub sort : kind ≡ kind_value answer
   pub place' : place ≡ place_value answer
@@ -73,13 +73,6 @@ pub record TextOut (least : ℕ) (P : List ℕ → Type 0) (text : List ℕ) (r 
   pub refused : length text < least → (r ≡ 7) × (text' ≡ text) × (len ≡ 0)
   pub written : least ≤ length text → Lines P text r text' len
 
--- the first bytes of a text by value, which fit into so many
-pub record TextRoom (t : Text) (room : ℕ) : Type 0 where
-  pub whole : t.length ≤ length t.bytes
-  pub count : t.length ≡ length (take t.length t.bytes)
-  pub fits : t.length ≤ room
-  pub few : t.length ≤ 192
-
 -- the report of the books b, and which rule they break
 pub record ReportLines (b withheld xs : List ℕ) : Type 0 where
   pub number : ℕ
@@ -87,6 +80,6 @@ pub record ReportLines (b withheld xs : List ℕ) : Type 0 where
   pub is : xs ≡ report_of number b
 
 pub record BrokenLines (b withheld xs : List ℕ) : Type 0 where
-  pub diagnosis : Diagnosis
+  pub diagnosis : Result (Option Fault) Refusal
   pub diagnosed : Diagnosed b withheld diagnosis
   pub is : xs ≡ diagnosis_lines diagnosis

@@ -1,13 +1,14 @@
 // The C interface: each function takes its numbers and slices, calls one request, and hands back the number and the values.
 #![tactic(auto)]
 
-ghost use Rattle.std.specs.Prelude.{◌≡◌, length, take};
+ghost use Rattle.std.specs.Prelude.{◌≡◌, ◌≤◌, length};
 ghost use Rattle.field.specs.Parts.{over};
 ghost use Rattle.tables.specs.Counts.{chosen_types};
 ghost use Rattle.tables.specs.Gates.{Gate};
+ghost use Rattle.tables.specs.Refusals.{number_of};
 ghost use Rattle.requests.specs.Amounts.{amount_of};
-ghost use Rattle.requests.specs.Answers.{number_of, value_of};
-ghost use Rattle.requests.specs.Create.{number_of as created_number, id_value, CreatedFixed, CreatedVariable};
+ghost use Rattle.requests.specs.Answers.{value_of};
+ghost use Rattle.requests.specs.Create.{id_value, CreatedFixed, CreatedVariable};
 ghost use Rattle.requests.specs.Delete.{Deleted};
 ghost use Rattle.requests.specs.Format.{Formatted};
 ghost use Rattle.requests.specs.Grow.{Grew};
@@ -19,23 +20,21 @@ ghost use Rattle.requests.specs.Search.{Searched};
 ghost use Rattle.requests.specs.Show.{show_tests, ShownAt};
 ghost use Rattle.requests.specs.State.{Removed, Recovered, Protected};
 ghost use Rattle.requests.specs.Write.{Wrote};
-ghost use Rattle.isc.specs.Border.{asked, AnswerOut, CreateOut, LocateOut, SpaceOut, BrokenOut, TextRoom, TextOut, ReportLines, BrokenLines};
+ghost use Rattle.isc.specs.Border.{asked, AnswerOut, CreateOut, LocateOut, SpaceOut, BrokenOut, TextOut, ReportLines, BrokenLines};
 
 use examination::fault::{place_kind_of, place_of, rule_of};
 use field::parts::copy;
 use requests::actual_delete::actual_delete;
 use requests::amount::amount_of;
-use requests::answer::Answer;
-use requests::broken_rule::{Diagnosis, broken_rule};
+use requests::broken_rule::broken_rule;
 use requests::broken_text::broken_text;
-use requests::create::Created;
 use requests::create_fixed::create_fixed;
 use requests::create_variable::create_variable;
 use requests::dismount::dismount;
 use requests::format::format;
 use requests::grow::grow;
 use requests::list::list;
-use requests::locate::{Located, locate};
+use requests::locate::locate;
 use requests::mount::mount;
 use requests::place_header::place_header;
 use requests::read::read;
@@ -43,12 +42,25 @@ use requests::recover::recover;
 use requests::report::{Text, report};
 use requests::search::search;
 use requests::set_protection::set_protection;
-use requests::show::{Part, show_number, show_part};
-use requests::show_header::{header_number, header_part};
+use requests::show::{Part, check_show, show_part};
+use requests::show_header::{check_header, header_part};
 use requests::space::{Space, space_of};
 use requests::temporary_delete::temporary_delete;
 use requests::write::write;
 use tables::counts::chosen_types;
+use tables::kinds::{Index, Sector};
+use tables::label::Label;
+use tables::refusal::Refusal;
+
+// The number of an answer, 0 where it is done.
+fn number_of<T: Copy>(answer: Result<T, Refusal>) -> u32
+    ensures { result ≡ number_of answer }
+{
+    match answer {
+        Ok(_) => 0,
+        Err(why) => why.number(),
+    }
+}
 
 #[unsafe(no_mangle)]
 pub extern "C" fn isc_format(
@@ -66,37 +78,37 @@ pub extern "C" fn isc_format(
 {
     let z = amount_of(zones);
     let n = amount_of(indexes);
-    format(books, z, n, application, volume, id, owner, code, date)
+    let label = Label {
+        application,
+        volume,
+        id,
+        owner,
+        code,
+        date,
+    };
+    number_of(format(books, z, n, &label))
 }
 
 #[unsafe(no_mangle)]
 pub extern "C" fn isc_mount(books: &mut [u8], withheld: &[u32]) -> u32
     ensures { Mounted books.old withheld.now result books.new }
 {
-    mount(books, withheld)
+    number_of(mount(books, withheld))
 }
 
 #[unsafe(no_mangle)]
 pub extern "C" fn isc_dismount(books: &mut [u8], withheld: &[u32]) -> u32
     ensures { Dismounted books.old withheld.now result books.new }
 {
-    dismount(books, withheld)
+    number_of(dismount(books, withheld))
 }
 
 // Hands back what a create answers.
-fn hand_back_id(made: Created, id: &mut u32) -> u32
-    ensures { (result ≡ created_number made) × (id.new ≡ id_value made) }
+fn hand_back_id(made: Result<Index, Refusal>, id: &mut u32) -> u32
+    ensures { (result ≡ number_of made) × (id.new ≡ id_value made) }
 {
-    match made {
-        Created::Done(i) => {
-            *id = i.0;
-            0
-        }
-        Created::Refused(n) => {
-            *id = 0;
-            n
-        }
-    }
+    *id = made.unwrap_or(Index(0)).0;
+    number_of(made)
 }
 
 #[unsafe(no_mangle)]
@@ -150,7 +162,7 @@ pub extern "C" fn isc_grow(
 ) -> u32
     ensures { Grew books.old withheld.now id (amount_of length) date.now result books.new }
 {
-    grow(books, withheld, id, amount_of(length), date)
+    number_of(grow(books, withheld, id, amount_of(length), date))
 }
 
 #[unsafe(no_mangle)]
@@ -163,7 +175,7 @@ pub extern "C" fn isc_temporary_delete(
 ) -> u32
     ensures { Removed books.old withheld.now body.old id date.now result books.new body.new }
 {
-    temporary_delete(books, withheld, body, id, date)
+    number_of(temporary_delete(books, withheld, body, id, date))
 }
 
 #[unsafe(no_mangle)]
@@ -176,7 +188,7 @@ pub extern "C" fn isc_recover(
 ) -> u32
     ensures { Recovered books.old withheld.now body.old id date.now result books.new body.new }
 {
-    recover(books, withheld, body, id, date)
+    number_of(recover(books, withheld, body, id, date))
 }
 
 #[unsafe(no_mangle)]
@@ -189,7 +201,7 @@ pub extern "C" fn isc_actual_delete(
 ) -> u32
     ensures { Deleted books.old withheld.now body.old id date.now result books.new body.new }
 {
-    actual_delete(books, withheld, body, id, date)
+    number_of(actual_delete(books, withheld, body, id, date))
 }
 
 #[unsafe(no_mangle)]
@@ -202,23 +214,15 @@ pub extern "C" fn isc_set_protection(
 ) -> u32
     ensures { Protected books.old withheld.now id protection date.now result books.new }
 {
-    set_protection(books, withheld, id, protection, date)
+    number_of(set_protection(books, withheld, id, protection, date))
 }
 
 // Hands back an answer with one value.
-fn hand_back(answer: Answer, value: &mut u32) -> u32
+fn hand_back(answer: Result<u32, Refusal>, value: &mut u32) -> u32
     ensures { (result ≡ number_of answer) × (value.new ≡ value_of answer) }
 {
-    match answer {
-        Answer::Done(n) => {
-            *value = n;
-            0
-        }
-        Answer::Refused(n) => {
-            *value = 0;
-            n
-        }
-    }
+    *value = answer.unwrap_or(0);
+    number_of(answer)
 }
 
 #[unsafe(no_mangle)]
@@ -260,16 +264,8 @@ pub extern "C" fn isc_locate(
     ensures { LocateOut books.now withheld.now id k result sector.new }
 {
     let found = locate(books, withheld, id, k);
-    match found {
-        Located::At(s) => {
-            *sector = s.0;
-            0
-        }
-        Located::Refused(n) => {
-            *sector = 0;
-            n
-        }
-    }
+    *sector = found.unwrap_or(Sector(0)).0;
+    number_of(found)
 }
 
 #[unsafe(no_mangle)]
@@ -282,29 +278,23 @@ pub extern "C" fn isc_space(
     ensures { SpaceOut books.now withheld.now result sectors.new used.new }
 {
     let found = space_of(books, withheld);
-    match found {
-        Space::Is(s, u) => {
-            *sectors = s;
-            *used = u;
-            0
-        }
-        Space::Refused(n) => {
-            *sectors = 0;
-            *used = 0;
-            n
-        }
-    }
+    let space = found.unwrap_or(Space {
+        sectors: 0,
+        used: 0,
+    });
+    *sectors = space.sectors;
+    *used = space.used;
+    number_of(found)
 }
 
 // Hands back a text that has room.
-fn hand_back_text(t: Text, text: &mut [u8], count: &mut u32) -> u32
-    requires { TextRoom t (length text.old) }
-    ensures { (result ≡ 0) × (text.new ≡ over text.old 0 (take t.length t.bytes)) × (count.new ≡ t.length) }
+fn hand_back_text(t: &Text, text: &mut [u8], count: &mut u32) -> u32
+    requires { length t.now ≤ length text.old }
+    ensures { (result ≡ 0) × (text.new ≡ over text.old 0 t.now) × (count.new ≡ length t.now) }
 {
-    let n = t.length;
-    let bytes = t.bytes;
-    copy(text, 0, &bytes[..n]);
-    *count = n as u32;
+    let bytes = t.as_bytes();
+    copy(text, 0, bytes);
+    *count = bytes.len() as u32;
     0
 }
 
@@ -322,7 +312,7 @@ pub extern "C" fn isc_report(
         return 7;
     }
     let t = report(books, withheld);
-    hand_back_text(t, text, length)
+    hand_back_text(&t, text, length)
 }
 
 #[unsafe(no_mangle)]
@@ -336,20 +326,11 @@ pub extern "C" fn isc_broken_rule(
     ensures { BrokenOut books.now withheld.now result rule.new kind.new place.new }
 {
     let found = broken_rule(books, withheld);
-    match found {
-        Diagnosis::Found(f) => {
-            *rule = rule_of(f);
-            *kind = place_kind_of(f);
-            *place = place_of(f);
-            0
-        }
-        Diagnosis::Refused(n) => {
-            *rule = 0;
-            *kind = 0;
-            *place = 0;
-            n
-        }
-    }
+    let fault = found.unwrap_or(None);
+    *rule = rule_of(fault);
+    *kind = place_kind_of(fault);
+    *place = place_of(fault);
+    number_of(found)
 }
 
 #[unsafe(no_mangle)]
@@ -366,7 +347,7 @@ pub extern "C" fn isc_broken_text(
         return 7;
     }
     let t = broken_text(books, withheld);
-    hand_back_text(t, text, length)
+    hand_back_text(&t, text, length)
 }
 
 #[unsafe(no_mangle)]
@@ -443,7 +424,7 @@ pub extern "C" fn isc_show_number(
 ) -> u32
     ensures { Gate (show_tests books.now withheld.now body.now id k) result }
 {
-    show_number(books, withheld, body, id, k)
+    number_of(check_show(books, withheld, body, id, k))
 }
 
 #[unsafe(no_mangle)]
@@ -457,7 +438,7 @@ pub extern "C" fn isc_place_header(
 ) -> u32
     ensures { HeaderPlaced books.old withheld.now body.old id content.now date.now result books.new body.new }
 {
-    place_header(books, withheld, body, id, content, date)
+    number_of(place_header(books, withheld, body, id, content, date))
 }
 
 // A header: where it lies, as isc_show_place hands back a sector's place.
@@ -472,5 +453,5 @@ pub extern "C" fn isc_header_place(books: &[u8], withheld: &[u32], body: &[u8], 
 pub extern "C" fn isc_header_number(books: &[u8], withheld: &[u32], body: &[u8], id: u32) -> u32
     ensures { Gate (show_header_tests books.now withheld.now body.now id) result }
 {
-    header_number(books, withheld, body, id)
+    number_of(check_header(books, withheld, body, id))
 }

@@ -1,6 +1,6 @@
 -- Marks that are added run by run, table by table, and what they say of R7.
 use mathlib.Core.Path.{◌≡◌, refl, sym, ap, ap₂, ◌∙◌}
-use mathlib.Core.Logic.{◌⊎◌, inl, inr, ⊎_elim}
+use mathlib.Core.Logic.{◌≢◌, ◌⊎◌, inl, inr, ⊎_elim}
 use mathlib.Core.Bool.{Bool, true, false, not}
 use mathlib.Core.List.{List}
 use Prim.Native.Nat.{ℕ, zero, suc, ◌+◌, ◌-◌, ◌*◌, ◌/◌, ◌%◌, ◌^◌, ◌≤◌, ◌<◌}
@@ -8,6 +8,9 @@ use native.Mathlib.Nat.{zero-div}
 use native.Mathlib.Decide.{dec_lt}
 use native.Mathlib.Omega.{arith}
 use lib.ListN.{length, get_or, replicate}
+use Rattle.std.specs.Bool.{MatchBool}
+use Rattle.std.specs.List.{AllWithin, HoldsAt, range_with_len}
+use Rattle.std.proofs.lemmas.List.FromFn.{length-range_with_len, get_or-range_with_len}
 use Rattle.field.specs.Says.{Says}
 use Rattle.field.specs.Sum.{sum_to}
 use Rattle.field.specs.Numbers.{u16_at, u32_at}
@@ -144,24 +147,16 @@ module _ (i : ℕ) (t : List ℕ) (w : ℕ) (ew : w ≡ word_of t) where
       go false x = λ h. x (λ n. omega (arith, h n, same n))
 
 -- the two steps
-module _ (i : ℕ) (t m₀ m : List ℕ) (r : Bool) (a : Adds r m₀ m (over_of i t)) where
-  pub claims_stop : not r ≡ true → Adds false m₀ m (claims_of i t)
+module _ (i : ℕ) (t m₀ m : List ℕ) where
+  pub claims_stop : (r : Bool) → r ≡ false → Adds r m₀ m (over_of i t) → Adds r m₀ m (claims_of i t)
   unfolding claims_of
-  claims_stop e h = adds_false r m₀ m _ a e (λ n. omega (arith, h n))
+  claims_stop true e a = absurd (let z : ◌≡◌ {A = ℕ} 0 1 = cc in omega arith)
+  claims_stop false e a = λ h. a (λ n. omega (arith, h n))
 
-  pub fits_still : not r ≡ false → TableFits i t (length m₀) → TableFits i t (length m)
-  fits_still e f = rw (adds_true r m₀ m _ a e).len f
-
-  pub claims_more : not r ≡ false → (s : Bool) (m' : List ℕ) → Adds s m m' (header_over i t) → Adds s m₀ m' (claims_of i t)
+  pub claims_more : MarksAdded m₀ m (over_of i t) → (s : Bool) (m' : List ℕ) → Adds s m m' (header_over i t) → Adds s m₀ m' (claims_of i t)
   unfolding claims_of
-  claims_more e = go
-    where
-      x : MarksAdded m₀ m (over_of i t)
-      x = adds_true r m₀ m _ a e
-
-      go : (s : Bool) (m' : List ℕ) → Adds s m m' (header_over i t) → Adds s m₀ m' (claims_of i t)
-      go true m' d = record { len = d.len ∙ x.len; bits = λ n. omega (arith, d.bits n, x.bits n) }
-      go false m' d = λ h. d (λ n. omega (arith, h n, x.bits n))
+  claims_more x true m' d = record { len = d.len ∙ x.len; bits = λ n. omega (arith, d.bits n, x.bits n) }
+  claims_more x false m' d = λ h. d (λ n. omega (arith, h n, x.bits n))
 
 -- ---- R6 gives that what a table owns fits, and that none of it lies in zone 1 or Z
 
@@ -289,7 +284,7 @@ module _ (b : List ℕ) (small : (j : ℕ) → get_or b j 0 < 256) where
       rw (e, f) at (word_bit (base + 8 * (s / 64)) (s % 64) (omega arith))
 
   module _ (p : Places) (m : List ℕ) where
-    pub agrees_stop : (k x : ℕ) → ((j : ℕ) → get_or m j 0 < 2 ^ 64) → 16 ≤ k → k < 16 * (p.zones - 1) → x ≡ word_at b (p.sectortable + 8 * k) → (x ≡ get_or m k 0 → ⊥) → Agrees p b m → ⊥
+    agrees_stop : (k x : ℕ) → ((j : ℕ) → get_or m j 0 < 2 ^ 64) → 16 ≤ k → k < 16 * (p.zones - 1) → x ≡ word_at b (p.sectortable + 8 * k) → (x ≡ get_or m k 0 → ⊥) → Agrees p b m → ⊥
     unfolding mark_at
     agrees_stop k x hm lo hi e ne h = ne (e ∙ word_same (word_at b (p.sectortable + 8 * k)) (get_or m k 0) (word_lt (p.sectortable + 8 * k)) (hm k) (λ j l. bit j l))
       where
@@ -299,9 +294,24 @@ module _ (b : List ℕ) (small : (j : ℕ) → get_or b j 0 < 256) where
             let e₂ : 63 - (64 * k + (63 - j)) % 64 ≡ j = omega arith in
             rw (e₁, e₂) at (table_bit p.sectortable (64 * k + (63 - j)) ∙ sym (h (64 * k + (63 - j)) (omega arith) (omega arith)))
 
-    pub agrees_end : (k : ℕ) → 16 * (p.zones - 1) ≤ k → ((j : ℕ) → j < k → 16 ≤ j → word_at b (p.sectortable + 8 * j) ≡ get_or m j 0) → Agrees p b m
+    agrees_end : (k : ℕ) → 16 * (p.zones - 1) ≤ k → ((j : ℕ) → j < k → 16 ≤ j → word_at b (p.sectortable + 8 * j) ≡ get_or m j 0) → Agrees p b m
     unfolding mark_at
     agrees_end k l h s hi lo = ap (λ (n : ℕ). bit_of n (63 - s % 64)) (sym (h (s / 64) (omega arith) (omega arith))) ∙ table_bit p.sectortable s
+
+    -- the words of the zones between are gone through
+    abbrev words : List ℕ
+    words = range_with_len 16 (16 * (p.zones - 1) - 16)
+
+    pub agrees_says : ((j : ℕ) → get_or m j 0 < 2 ^ 64) → (r : Bool)
+        → MatchBool r (AllWithin (λ j. word_at b (p.sectortable + 8 * j) ≡ get_or m j 0) words 0 (length words)) ((k : ℕ) × (k < length words) × HoldsAt (λ j. word_at b (p.sectortable + 8 * j) ≢ get_or m j 0) words k)
+        → Says r (Agrees p b m)
+    agrees_says hm true h = agrees_end (16 * (p.zones - 1)) (omega arith) (λ j l lo. rw (at j l lo) at (h (j - 16) 0 (omega arith) (omega (arith, length-range_with_len 16 (16 * (p.zones - 1) - 16)))))
+      where
+        at : (j : ℕ) → j < 16 * (p.zones - 1) → 16 ≤ j → get_or words (j - 16) 0 ≡ j
+        at j l lo = get_or-range_with_len 16 (16 * (p.zones - 1) - 16) (j - 16) 0 (omega arith) ∙ (let e : 16 + (j - 16) ≡ j = omega arith in e)
+    agrees_says hm false h =
+        let l : h.0 < 16 * (p.zones - 1) - 16 = omega (arith, h.1, length-range_with_len 16 (16 * (p.zones - 1) - 16)) in
+        agrees_stop (16 + h.0) _ hm (omega arith) (omega arith) refl (rw (get_or-range_with_len 16 (16 * (p.zones - 1) - 16) h.0 0 l) at (h.2 0))
 
 -- ---- R7
 
@@ -314,14 +324,9 @@ pub mark_one : (m : List ℕ) (n : ℕ) → mark_at m n ≤ 1
 unfolding mark_at
 mark_one m n = omega (arith, bit_lt (get_or m (n / 64) 0) (63 - n % 64))
 
-module _ (p : Places) (b m₀ m : List ℕ) (d : Bool) (a : Adds d m₀ m (claims_over (view_of p b))) where
-  pub owned_stop : Layout p (length b) → R6 (view_of p b) → not d ≡ true → Owned (view_of p b) (mark_at m₀) → ⊥
-  owned_stop lay r6 e rule = adds_false d m₀ m _ a e (λ n. rule_fits p b lay r6 rule n (mark_one m₀ n))
-
-  pub owned_end : (r : Bool) → not d ≡ false → Says r (Agrees p b m) → Says r (Owned (view_of p b) (mark_at m₀))
-  owned_end r e s =
-      let y = adds_true d m₀ m _ a e in
-      says_map r (λ h. record { count = λ n l lo. omega (arith, y.bits n, h n l lo) }) (λ h n l lo. omega (arith, y.bits n, h.count n l lo)) s
+pub owned_stop : (p : Places) (b m₀ m : List ℕ) (d : Bool) → d ≡ false → Adds d m₀ m (claims_over (view_of p b)) → Layout p (length b) → R6 (view_of p b) → Says d (Owned (view_of p b) (mark_at m₀))
+owned_stop p b m₀ m true e a lay r6 = absurd (let z : ◌≡◌ {A = ℕ} 0 1 = cc in omega arith)
+owned_stop p b m₀ m false e a lay r6 = λ rule. a (λ n. rule_fits p b lay r6 rule n (mark_one m₀ n))
 
 -- what is set besides may be said in another way
 owned_same : {v : View} {x y : ℕ → ℕ} → ((s : ℕ) → x s ≡ y s) → Owned v x → Owned v y

@@ -11,6 +11,8 @@ use lib.Bits.{bit_and, and_mask}
 use lib.ListN.{length, get_or, set, length-set}
 use lib.Seq.{get_or-set_same, get_or-set_other}
 use lib.Pow.{pow_pos, pow-add, pow_mono, high, low, field, shr-shr, shr_lt, mod-pow-add, mod-mod-pow, ones_split, ones_lt}
+use Rattle.std.specs.Prelude.{Option, Some, None}
+use Rattle.std.specs.Option.{SomeIff, unwrap_or}
 use Rattle.field.specs.Bits.{bit_of, with_bit}
 use Rattle.field.proofs.BitLaws.{with_same, with_other, with_sum}
 use Rattle.field.proofs.RunLaws.{low_same}
@@ -32,6 +34,11 @@ fill_below x top (suc w) = with_bit (fill_below x top w) (top - suc w) 1
 -- 2 ^ n - 1 without its k lowest bits
 pub ones_shift : (n k : ℕ) → k ≤ n → (2 ^ n - 1) / 2 ^ k ≡ 2 ^ (n - k) - 1
 ones_shift n k h = ap (λ (m : ℕ). (2 ^ m - 1) / 2 ^ k) (let e : n ≡ n - k + k = omega arith in e) ∙ ap (λ (m : ℕ). m / 2 ^ k) (ones_split (n - k) k) ∙ high (2 ^ (n - k) - 1) k (ones_lt k)
+
+-- a word of set bits, shifted by k: where k is 64 there is no shift, and 0 stands for it
+pub behind_is : (k n : ℕ) (o : Option ℕ) → k ≤ 64 → SomeIff o (k < 64) (18446744073709551615 / 2 ^ k) → n ≡ unwrap_or o 0 → n ≡ 2 ^ (64 - k) - 1
+behind_is k n None few none e = e ∙ ap (λ (i : ℕ). 2 ^ i - 1) (let z : 0 ≡ 64 - k = omega arith in z)
+behind_is k n (Some v) few some e = e ∙ some.1 ∙ ones_shift 64 k few
 
 -- the bits below the weight 2 ^ k are those of the remainder
 bit_mod : (n k j : ℕ) → j < k → bit_of n j ≡ bit_of (n % 2 ^ k) j

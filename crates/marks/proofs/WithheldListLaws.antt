@@ -1,20 +1,21 @@
 -- The withheld list, gone through: what is asked of each sector is what is asked of the list, and its blocks are marked one after the other.
-use mathlib.Core.Path.{◌≡◌, refl, ap, ◌∙◌}
-use mathlib.Core.Bool.{Bool, true, false, not}
+use mathlib.Core.Path.{◌≡◌, refl, sym, ap, ◌∙◌}
+use mathlib.Core.Bool.{Bool, true, false}
 use mathlib.Core.List.{List}
-use Prim.Native.Nat.{ℕ, suc, ◌+◌, ◌-◌, ◌*◌, ◌%◌, ◌≤◌, ◌<◌}
+use Prim.Native.Nat.{ℕ, ◌+◌, ◌≤◌, ◌<◌}
 use native.Mathlib.Omega.{arith}
-use lib.Dec.{eqb}
+use lib.Dec.{ltb}
+use borrow.Author.Tests.{ltb-true, ltb-false}
+use native.Mathlib.Numerals.{add-one}
+use Rattle.std.specs.List.{IsAllAdjacentAnswer}
 use lib.ListN.{get_or, length, replicate, length-replicate}
 use Rattle.field.specs.Says.{Says}
 use Rattle.field.specs.Sum.{sum_to}
-use Rattle.field.proofs.Tests.{passed, refused, says_map, says_eq}
 use Rattle.field.proofs.Sums.{sum_more, sum_upto}
 use Rattle.tables.specs.declared.index.Pointer.{Pointer}
 use Rattle.tables.specs.declared.places.Places.{Places}
 use Rattle.tables.specs.declared.zone.ZoneEntry.{ZoneEntry}
-use Rattle.tables.specs.Blocks.{ZoneType, DataType, block_of}
-use Rattle.tables.specs.Each.{Each}
+use Rattle.tables.specs.Blocks.{ZoneType, block_of}
 use Rattle.tables.specs.Kinds.{zone_of}
 use Rattle.tables.specs.Places.{Layout}
 use Rattle.tables.specs.Views.{View, view_of, cov}
@@ -24,31 +25,16 @@ use Rattle.tables.specs.Rules.R7.{nothing}
 use Rattle.tables.proofs.BlockLaws.{data_zone}
 use Rattle.tables.proofs.WithheldLaws.{start_within, withheld_once}
 use Rattle.marks.specs.Marks.{MarksAdded, Adds, MarksAre}
-use Rattle.marks.specs.WithheldList.{InList, first_withheld}
+use Rattle.marks.specs.WithheldList.{Ascends, first_withheld}
 use Rattle.marks.proofs.MarkLaws.{zeros_clear}
 
 -- ---- a sector
 
 module _ (p : Places) (b : List ℕ) (s : ℕ) where
-  pub start_outside : 1024 * p.zones ≤ s → StartsBlock (view_of p b) s → ⊥
-  start_outside l h = omega (arith, h.inside)
-
   -- the entry of its zone, as it was read
   module _ (z : ℕ) (at : z ≡ zone_of s) (e : ZoneEntry) (is : e ≡ zone_at p b z) where
     entry_type : e.ztype ≡ ((view_of p b).zone (zone_of s)).ztype
     entry_type = ap (λ (x : ZoneEntry). x.ztype) (is ∙ ap (zone_at p b) at)
-
-    module _ (r : Bool) (says : Says r (DataType e.ztype)) where
-      pub start_untyped : not r ≡ true → StartsBlock (view_of p b) s → ⊥
-      start_untyped q h = refused r says q (rw entry_type h.typed)
-
-      pub entry_data : not r ≡ false → ZoneType e.ztype
-      entry_data q = data_zone (passed r says q)
-
-      pub start_says : (size : ℕ) → s < 1024 * p.zones → not r ≡ false → size ≡ block_of e.ztype → Says (eqb (s % 1024 % size) 0) (StartsBlock (view_of p b) s)
-      start_says size l q of =
-          let same : size ≡ block_at (view_of p b) s = of ∙ ap block_of entry_type in
-          says_eq (s % 1024 % size) 0 (λ h. record { inside = l; typed = rw (← entry_type) (passed r says q); start = rw (← same) h }) (λ h. rw same h.start)
 
     -- the block that begins there
     pub block_typed : StartsBlock (view_of p b) s → ZoneType e.ztype
@@ -60,40 +46,11 @@ module _ (p : Places) (b : List ℕ) (s : ℕ) where
         let same : size ≡ block_at (view_of p b) s = of ∙ ap block_of entry_type in
         (refl, same, omega (arith, start_within (view_of p b) s h, h.inside, lay.most))
 
--- ---- a sector in the list
-
-module _ (v : View) (withheld : List ℕ) (k : ℕ) where
-  pub list_descends : (k ≡ 0 → ⊥) → get_or withheld k 0 ≤ get_or withheld (k - 1) 0 → InList v withheld k → ⊥
-  list_descends some l h = omega (arith, h.above (k - 1) (omega arith))
-
-  pub list_above : (r : Bool) → (k ≡ 0 → ⊥) → get_or withheld (k - 1) 0 < get_or withheld k 0 → Says r (StartsBlock v (get_or withheld k 0)) → Says r (InList v withheld k)
-  list_above r some l s = says_map r (λ h. record { above = λ j e. (let q : j ≡ k - 1 = omega arith in rw q l); starts = h }) (λ h. h.starts) s
-
-  pub list_first : (r : Bool) → k ≡ 0 → Says r (StartsBlock v (get_or withheld k 0)) → Says r (InList v withheld k)
-  list_first r none s = says_map r (λ h. record { above = λ j e. absurd (omega arith); starts = h }) (λ h. h.starts) s
-
 -- ---- the list
 
-module _ (v : View) (withheld : List ℕ) where
-  pub list_long : 512 < length withheld → Withholds v withheld → ⊥
-  list_long l h = omega (arith, h.few)
-
-  -- what is asked of the list is asked of each
-  list_each : Withholds v withheld → (k : ℕ) → k < length withheld → InList v withheld k
-  list_each h k l = record { above = λ j e. rw e at (h.ascending j (omega arith)); starts = h.starts k l }
-
-  pub list_starts : (k : ℕ) → Withholds v withheld → k < length withheld → StartsBlock v (get_or withheld k 0)
-  list_starts k h l = h.starts k l
-
-  pub list_stops : (k : ℕ) (r : Bool) → k < length withheld → Says r (InList v withheld k) → not r ≡ true → Withholds v withheld → ⊥
-  list_stops k r l s e h = refused r s e (list_each h k l)
-
-  pub list_ends : (k : ℕ) → length withheld ≤ 512 → length withheld ≤ k → Each (InList v withheld) 0 k → Withholds v withheld
-  list_ends k few l each = record {
-    few = few;
-    ascending = λ j lj. (each (suc j) (omega arith) (omega arith)).above j refl;
-    starts = λ j lj. (each j (omega arith) (omega arith)).starts;
-  }
+pub ascends_says : (xs : List ℕ) (r : Bool) → IsAllAdjacentAnswer (λ x y b. b ≡ ltb x y) xs r → Says r (Ascends xs)
+ascends_says xs true h = λ k l. ltb-true _ _ (sym (rw (add-one k) at (h k 0 (omega arith))))
+ascends_says xs false h = λ up. absurd (omega (arith, ltb-false _ _ (sym (h.2 0)), up h.0 (omega (arith, h.1)), add-one h.0, ap (λ (k : ℕ). get_or xs k 0) (add-one h.0)))
 
 -- ---- marks
 

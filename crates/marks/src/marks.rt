@@ -3,12 +3,12 @@
 ghost use Rattle.std.specs.Prelude.{◌≡◌, ◌+◌, ◌-◌, ◌/◌, ◌^◌, ◌≤◌, ◌<◌, length};
 ghost use Rattle.field.specs.Says.{Says};
 ghost use Rattle.tables.specs.Places.{Layout};
-ghost use Rattle.tables.specs.Views.{view_of, cov, over_of, header_over, claims_of, claims_over};
+ghost use Rattle.tables.specs.Views.{books_view, cov, over_of, header_over, claims_of, claims_over};
 ghost use Rattle.tables.specs.Rules.R6.{R6};
 ghost use Rattle.tables.specs.Rules.R7.{Owned};
 ghost use Rattle.marks.specs.Marks.{InWord, Piece, Adds, TableFits, Agrees, mark_at, word_at};
 
-use field::numbers::get_u32;
+use tables::books::Books;
 use tables::index;
 use tables::index::Pointer;
 use tables::kinds::{Index, Sector};
@@ -33,20 +33,12 @@ fn in_word(at: Sector, left: u32) -> u32
     room
 }
 
-// The bits of a word but its k highest.
-fn behind_low(k: u32) -> u64
-    requires { k < 64 }
+// The bits of a word but its k highest, of which there are 64 at most.
+fn behind(k: u32) -> u64
+    requires { k ≤ 64 }
     ensures { result ≡ 2 ^ (64 - k) - 1 }
 {
-    18446744073709551615 >> k
-}
-
-// The same, for a k of 1 to 64.
-fn behind_high(k: u32) -> u64
-    requires { (1 ≤ k) × (k ≤ 64) }
-    ensures { result ≡ 2 ^ (64 - k) - 1 }
-{
-    9223372036854775807 >> (k - 1)
+    u64::MAX.checked_shr(k).unwrap_or(0)
 }
 
 // Marks w sectors whose marks stand in one word. The marks are clear if the word from them on is no more than the bits after them can make;
@@ -58,8 +50,8 @@ pub fn mark_piece(m: &mut [u64], at: Sector, w: u32) -> bool
 {
     let j = (at.0 / WORD) as usize;
     let k = at.0 % WORD;
-    let on = behind_low(k);
-    let rest = behind_high(k + w);
+    let on = behind(k);
+    let rest = behind(k + w);
     let x = m[j];
     let met = x & on;
     if rest < met {
@@ -76,6 +68,7 @@ pub fn mark_run(m: &mut [u64], q: Pointer) -> bool
     ensures { Adds result m.old m.new (cov q.start.0 q.count) }
 {
     let mut i: u32 = 0;
+    // From word to word, by as many marks as stand in the next one: no range has these steps.
     while i < q.count {
         let w = in_word(Sector(q.start.0 + i), q.count - i);
         if !mark_piece(m, Sector(q.start.0 + i), w) {
@@ -93,8 +86,7 @@ fn mark_pointers(i: Index, t: &[u8], m: &mut [u64]) -> bool
 {
     let slots = index::slots(i, t);
     let base = index::base(i, t);
-    let mut j: usize = 0;
-    while j < slots {
+    for j in 0..slots {
         let q = index::pointer_at(t, base + index::POINTER * j);
         if q.count == 0 {
             return true;
@@ -102,7 +94,6 @@ fn mark_pointers(i: Index, t: &[u8], m: &mut [u64]) -> bool
         if !mark_run(m, q) {
             return false;
         }
-        j += 1;
     }
     true
 }
@@ -123,27 +114,20 @@ fn mark_claims(i: Index, t: &[u8], m: &mut [u64]) -> bool
     requires { TableFits i.0 t.now (length m.old) }
     ensures { Adds result m.old m.new (claims_of i.0 t.now) }
 {
-    if !mark_pointers(i, t, m) {
-        return false;
-    }
-    mark_header_run(i, t, m)
+    mark_pointers(i, t, m) && mark_header_run(i, t, m)
 }
 
 // Marks the sectors that any table owns.
-fn mark_all(b: &[u8], p: Places, m: &mut [u64]) -> bool
-    requires layout { Layout p (length b.now) }
-    requires r6 { R6 (view_of p b.now) }
+fn mark_all(b: &Books<'_>, m: &mut [u64]) -> bool
+    requires r6 { R6 (books_view b.now) }
     requires m_len { length m.old ≡ 4096 }
-    ensures { Adds result m.old m.new (claims_over (view_of p b.now)) }
+    ensures { Adds result m.old m.new (claims_over (books_view b.now)) }
 {
-    let indexes = p.indexes;
-    let mut i: u32 = 0;
-    while i < indexes {
-        let t = index::table(b, p, Index(i + 1));
-        if !mark_claims(Index(i + 1), t, m) {
+    for k in 0..b.places.indexes {
+        let i = Index(k + 1);
+        if !mark_claims(i, index::table(b, i), m) {
             return false;
         }
-        i += 1;
     }
     true
 }
@@ -153,10 +137,20 @@ fn word_at(b: &[u8], at: usize) -> u64
     requires { at + 8 ≤ length b.now }
     ensures { result ≡ word_at b.now at }
 {
-    (get_u32(b, at) as u64) * 4294967296 + get_u32(b, at + 4) as u64
+    u64::from_be_bytes([
+        b[at],
+        b[at + 1],
+        b[at + 2],
+        b[at + 3],
+        b[at + 4],
+        b[at + 5],
+        b[at + 6],
+        b[at + 7],
+    ])
 }
 
-// Are the marks the sector table's bits, outside zones 1 and Z?
+// Are the marks the sector table's bits, outside zones 1 and Z? It takes the bytes as such: that each is below 256 is known of a slice that is
+// passed, and not of a field.
 fn agrees(b: &[u8], p: Places, m: &[u64]) -> bool
     requires layout { Layout p (length b.now) }
     requires m_len { length m.now ≡ 4096 }
@@ -164,25 +158,14 @@ fn agrees(b: &[u8], p: Places, m: &[u64]) -> bool
 {
     let end = ZONE_WORDS * (p.zones as usize - 1);
     let base = p.sectortable;
-    let mut k: usize = ZONE_WORDS;
-    while k < end {
-        if word_at(b, base + 8 * k) != m[k] {
-            return false;
-        }
-        k += 1;
-    }
-    true
+    (ZONE_WORDS..end).all(|k| word_at(b, base + 8 * k) == m[k])
 }
 
 // Is each sector outside zones 1 and Z marked already or owned once, and not both, exactly if its bit is set?
-pub fn owned(b: &[u8], p: Places, m: &mut [u64]) -> bool
-    requires layout { Layout p (length b.now) }
-    requires r6 { R6 (view_of p b.now) }
+pub fn owned(b: &Books<'_>, m: &mut [u64]) -> bool
+    requires r6 { R6 (books_view b.now) }
     requires m_len { length m.old ≡ 4096 }
-    ensures { Says result (Owned (view_of p b.now) (mark_at m.old)) }
+    ensures { Says result (Owned (books_view b.now) (mark_at m.old)) }
 {
-    if !mark_all(b, p, m) {
-        return false;
-    }
-    agrees(b, p, m)
+    mark_all(b, m) && agrees(b.raw, b.places, m)
 }

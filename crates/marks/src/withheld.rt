@@ -2,18 +2,17 @@
 // its blocks, with which the examination of R7 begins.
 ghost use Rattle.std.specs.Prelude.{◌≡◌, ◌+◌, ◌≤◌, ◌<◌, length};
 ghost use Rattle.field.specs.Says.{Says};
-ghost use Rattle.tables.specs.Places.{Layout};
-ghost use Rattle.tables.specs.Views.{view_of};
+ghost use Rattle.tables.specs.Views.{books_view};
 ghost use Rattle.tables.specs.Withheld.{block_at, StartsBlock, Withholds, withheld_over};
 ghost use Rattle.tables.specs.Rules.R7.{nothing};
 ghost use Rattle.marks.specs.Marks.{MarksAre};
-ghost use Rattle.marks.specs.WithheldList.{InList};
+ghost use Rattle.marks.specs.WithheldList.{Ascends};
 
 use crate::marks::mark_run;
 use tables::blocks::{block_sectors, is_data_type};
+use tables::books::Books;
 use tables::index::Pointer;
 use tables::kinds::{Sector, zone_of};
-use tables::places::Places;
 use tables::sizes::ZONE;
 use tables::zone::zone_entry;
 
@@ -21,61 +20,38 @@ use tables::zone::zone_entry;
 const MOST: usize = 512;
 
 // Does sector s start a block of a zone of type 3 to 8?
-fn starts_block(b: &[u8], p: Places, s: Sector) -> bool
-    requires { Layout p (length b.now) }
-    ensures { Says result (StartsBlock (view_of p b.now) s.0) }
+fn starts_block(b: &Books<'_>, s: Sector) -> bool
+    ensures { Says result (StartsBlock (books_view b.now) s.0) }
 {
-    if s.0 >= ZONE * p.zones {
+    if s.0 >= ZONE * b.places.zones {
         return false;
     }
-    let t = zone_entry(b, p, zone_of(s)).ztype;
-    if !is_data_type(t) {
-        return false;
-    }
-    s.0 % ZONE % block_sectors(t) == 0
+    let t = zone_entry(b, zone_of(s)).ztype;
+    is_data_type(t) && s.0 % ZONE % block_sectors(t) == 0
 }
 
-// Is the k-th sector of the list above the one before it, and does it start a block?
-fn in_list(b: &[u8], p: Places, withheld: &[u32], k: usize) -> bool
-    requires layout { Layout p (length b.now) }
-    requires k_in_bounds { k < length withheld.now }
-    ensures { Says result (InList (view_of p b.now) withheld.now k) }
+// Is each sector of the list above the one before it?
+fn ascends(withheld: &[u32]) -> bool
+    ensures { Says result (Ascends withheld.now) }
 {
-    if k == 0 {
-        return starts_block(b, p, Sector(withheld[k]));
-    }
-    if withheld[k - 1] >= withheld[k] {
-        return false;
-    }
-    starts_block(b, p, Sector(withheld[k]))
+    withheld.is_sorted_by(|before, next| before < next)
 }
 
-// 7: each sector of the list is looked at once.
-pub fn withholds(b: &[u8], p: Places, withheld: &[u32]) -> bool
-    requires { Layout p (length b.now) }
-    ensures { Says result (Withholds (view_of p b.now) withheld.now) }
+// 7: the list is short, each sector is above the one before it, and each starts a block.
+pub fn withholds(b: &Books<'_>, withheld: &[u32]) -> bool
+    ensures { Says result (Withholds (books_view b.now) withheld.now) }
 {
-    let n = withheld.len();
-    if n > MOST {
-        return false;
-    }
-    let mut k: usize = 0;
-    while k < n {
-        if !in_list(b, p, withheld, k) {
-            return false;
-        }
-        k += 1;
-    }
-    true
+    withheld.len() <= MOST
+        && ascends(withheld)
+        && withheld.iter().all(|s| starts_block(b, Sector(*s)))
 }
 
 // The sectors of the block that begins at s.
-fn block_from(b: &[u8], p: Places, s: Sector) -> Pointer
-    requires layout { Layout p (length b.now) }
-    requires starts_block { StartsBlock (view_of p b.now) s.0 }
-    ensures { (result.start.0 ≡ s.0) × (result.count ≡ block_at (view_of p b.now) s.0) × (result.start.0 + result.count ≤ 262144) }
+fn block_from(b: &Books<'_>, s: Sector) -> Pointer
+    requires starts_block { StartsBlock (books_view b.now) s.0 }
+    ensures { (result.start.0 ≡ s.0) × (result.count ≡ block_at (books_view b.now) s.0) × (result.start.0 + result.count ≤ 262144) }
 {
-    let t = zone_entry(b, p, zone_of(s)).ztype;
+    let t = zone_entry(b, zone_of(s)).ztype;
     Pointer {
         start: s,
         count: block_sectors(t),
@@ -83,17 +59,12 @@ fn block_from(b: &[u8], p: Places, s: Sector) -> Pointer
 }
 
 // Marks the withheld blocks where nothing is marked. They lie apart, so that none is met marked.
-pub fn mark_withheld(b: &[u8], p: Places, withheld: &[u32], m: &mut [u64])
-    requires layout { Layout p (length b.now) }
-    requires withholds { Withholds (view_of p b.now) withheld.now }
+pub fn mark_withheld(b: &Books<'_>, withheld: &[u32], m: &mut [u64])
+    requires withholds { Withholds (books_view b.now) withheld.now }
     requires marks_are { MarksAre m.old nothing }
-    ensures { MarksAre m.new (withheld_over (view_of p b.now) withheld.now) }
+    ensures { MarksAre m.new (withheld_over (books_view b.now) withheld.now) }
 {
-    let n = withheld.len();
-    let mut k: usize = 0;
-    while k < n {
-        let q = block_from(b, p, Sector(withheld[k]));
-        mark_run(m, q);
-        k += 1;
+    for s in withheld {
+        mark_run(m, block_from(b, Sector(*s)));
     }
 }

@@ -2,14 +2,16 @@
 use mathlib.Core.Path.{◌≡◌, refl, sym, ap, ◌∙◌}
 use mathlib.Core.Bool.{Bool, true, false, not, not-not, cond, ◌&&◌, ◌||◌, and-false, or-true, false≢true}
 use mathlib.Core.List.{List, [], ◌∷◌}
-use Prim.Native.Nat.{ℕ, zero, suc, ◌<◌, ◌-◌}
+use Prim.Native.Nat.{ℕ, suc, ◌<◌, ◌≤◌, ◌-◌}
 use native.Mathlib.Omega.{arith}
 use lib.ListN.{length, get_or, take, drop}
 use lib.Seq.{take-length}
 use lib.Dec.{eqb}
 use borrow.Author.Tests.{eq-eqb, ne_eqb, eqb-true}
 use Rattle.patterns.specs.Pattern.{is_one, is_any, Matches, end, same, one, none, more, some_tail, by_byte, matches}
-use Rattle.patterns.specs.Three.{Tail, stands_for, any_three, byte_three, three_way, Differs}
+use Rattle.patterns.specs.declared.pattern.Match.{Match}
+use Rattle.patterns.specs.declared.pattern.Match.TheVariants.{Yes, No, NoTail}
+use Rattle.patterns.specs.Three.{stands_for, or_else, any_three, byte_three, three_way, Differs}
 
 -- ---- the test is the match
 
@@ -55,11 +57,11 @@ matches_complete (more {q} {c} {p} {s} e m) = let h = rw e at (matches_complete 
 
 -- ---- the three answers tell what the test does
 
--- what answer r tells of the test of name s: it passes, it does not, no tail does
-abbrev pub Tells : ℕ → (List ℕ → Bool) → List ℕ → Type 0
-Tells zero test s = test s ≡ true
-Tells (suc zero) test s = test s ≡ false
-Tells (suc (suc r)) test s = some_tail test s ≡ false
+-- what an answer tells of the test of name s: it passes, it does not, no tail does
+abbrev pub Tells : Match → (List ℕ → Bool) → List ℕ → Type 0
+Tells Yes test s = test s ≡ true
+Tells No test s = test s ≡ false
+Tells NoTail test s = some_tail test s ≡ false
 
 -- where no tail passes, the name itself does not
 none_here : (test : List ℕ → Bool) (s : List ℕ) → some_tail test s ≡ false → test s ≡ false
@@ -84,31 +86,31 @@ none_by : (test : List ℕ → Bool) (q c : ℕ) (s : List ℕ) → some_tail te
 none_by test q c [] h = rw (h, and-false (stands_for q c))
 none_by test q c (d ∷ s) h = rw (none_here test (d ∷ s) h, and-false (stands_for q c), none_by test q d s (none_after test d s h))
 
-module _ (test : List ℕ → Bool) (answer : List ℕ → ℕ) (tells : (s : List ℕ) → Tells (answer s) test s) where
+module _ (test : List ℕ → Bool) (answer : List ℕ → Match) (tells : (s : List ℕ) → Tells (answer s) test s) where
   any_tells : (s : List ℕ) → Tells (any_three answer s) (some_tail test) s
   any_tells [] = go (answer []) (tells [])
     where
-      go : (r : ℕ) → Tells r test [] → Tells (cond (eqb r 1) 2 r) (some_tail test) []
-      go zero h = h
-      go (suc zero) h = h
-      go (suc (suc r)) h = rw (ne_eqb (suc (suc r)) 1 (omega arith)) h
+      go : (r : Match) → Tells r test [] → Tells (or_else r NoTail) (some_tail test) []
+      go Yes h = h
+      go No h = h
+      go NoTail h = h
   any_tells (c ∷ s) = go (answer (c ∷ s)) (any_three answer s) (tells (c ∷ s)) (any_tells s)
     where
-      go : (r t : ℕ) → Tells r test (c ∷ s) → Tells t (some_tail test) s → Tells (cond (eqb r 1) t r) (some_tail test) (c ∷ s)
-      go zero t h k = rw h
-      go (suc zero) zero h k = rw (h, k)
-      go (suc zero) (suc zero) h k = rw (h, k)
-      go (suc zero) (suc (suc t)) h k = rw (h, none_here (some_tail test) s k, k)
-      go (suc (suc r)) t h k = rw (ne_eqb (suc (suc r)) 1 (omega arith)) (none_twice test (c ∷ s) h)
+      go : (r t : Match) → Tells r test (c ∷ s) → Tells t (some_tail test) s → Tells (or_else r t) (some_tail test) (c ∷ s)
+      go Yes t h k = rw h
+      go No Yes h k = rw (h, k)
+      go No No h k = rw (h, k)
+      go No NoTail h k = rw (h, none_here (some_tail test) s k, k)
+      go NoTail t h k = none_twice test (c ∷ s) h
 
   byte_tells : (q : ℕ) (s : List ℕ) → Tells (byte_three answer q s) (by_byte test q) s
   byte_tells q [] = refl
   byte_tells q (c ∷ s) = go (stands_for q c) refl (answer s) (tells s)
     where
-      go : (t : Bool) → stands_for q c ≡ t → (r : ℕ) → Tells r test s → Tells (cond t r 1) (by_byte test q) (c ∷ s)
-      go true e zero h = rw (e, h)
-      go true e (suc zero) h = rw (e, h)
-      go true e (suc (suc r)) h = none_by test q c s h
+      go : (t : Bool) → stands_for q c ≡ t → (r : Match) → Tells r test s → Tells (cond t r No) (by_byte test q) (c ∷ s)
+      go true e Yes h = rw (e, h)
+      go true e No h = rw (e, h)
+      go true e NoTail h = none_by test q c s h
       go false e r h = rw e
 
   by_tells : (q : ℕ) (s : List ℕ) (t : Bool) → Tells (cond t (any_three answer s) (byte_three answer q s)) (λ s. cond t (some_tail test s) (by_byte test q s)) s
@@ -121,98 +123,92 @@ three_tells [] [] = refl
 three_tells [] (c ∷ s) = refl
 three_tells (q ∷ p) s = by_tells (matches p) (three_way p) (three_tells p) q s (is_any q)
 
--- ---- the way out of name_matches
+-- ---- the ways out of name_matches
 
-pub zero_matches : (p s : List ℕ) (r : ℕ) → r ≡ three_way p s → eqb r 0 ≡ matches p s
-zero_matches p s r e = go r (rw (← e) at (three_tells p s))
+pub yes_matches : (p s : List ℕ) {r : Match} → r ≡ three_way p s → r ≡ Yes → true ≡ matches p s
+yes_matches p s e y = sym (rw (sym e ∙ y) at (three_tells p s))
+
+pub others_fail : (p s : List ℕ) {r : Match} → r ≡ three_way p s → (r ≡ Yes → ⊥) → false ≡ matches p s
+others_fail p s {r} e n = go r (rw (← e) at (three_tells p s)) n
   where
-    go : (r : ℕ) → Tells r (matches p) s → eqb r 0 ≡ matches p s
-    go zero h = sym h
-    go (suc zero) h = sym h
-    go (suc (suc r)) h = ne_eqb (suc (suc r)) 0 (omega arith) ∙ sym (none_here (matches p) s h)
+    go : (r : Match) → Tells r (matches p) s → (r ≡ Yes → ⊥) → false ≡ matches p s
+    go Yes h n = absurd (n refl)
+    go No h n = sym h
+    go NoTail h n = sym (none_here (matches p) s h)
 
--- ---- of rest
+-- ---- the ways out of three_way, whose slice patterns take the first byte off
 
-pub tail_of_lem : (s : List ℕ) → 0 < length s → Tail s (take (length s - 1) (drop 1 s))
-tail_of_lem [] h = absurd (omega (arith, h))
-tail_of_lem (c ∷ s) h = let e : suc (length s) - 1 ≡ length s = omega arith in rw (e, take-length s) (record { is = refl; shorter = omega arith })
+-- a list but for its first element
+abbrev rest : List ℕ → List ℕ
+rest s = take (length s - 1) (drop 1 s)
 
--- ---- of stands_for
+rest_cons : (c : ℕ) (s : List ℕ) → rest (c ∷ s) ≡ s
+rest_cons c s = let e : suc (length s) - 1 ≡ length s = omega arith in rw (e, take-length s)
 
-pub one_stands : (q c : ℕ) → q ≡ 42 → true ≡ stands_for q c
-one_stands q c e = rw e
-
-pub same_stands : (q c : ℕ) {r : Bool} → (q ≡ 42 → ⊥) → r ≡ eqb q c → r ≡ stands_for q c
-same_stands q c n e = rw (ne_eqb q 42 n) e
-
--- ---- of three_way
-
-pub both_end : (p s : List ℕ) → length p ≡ 0 → length s ≡ 0 → 0 ≡ three_way p s
+pub both_end : (p s : List ℕ) → length p < 1 → length s < 1 → Yes ≡ three_way p s
 unfolding three_way
 both_end [] [] h k = refl
 both_end [] (c ∷ s) h k = absurd (omega (arith, k))
 both_end (q ∷ p) s h k = absurd (omega (arith, h))
 
-pub pattern_ends : (p s : List ℕ) → length p ≡ 0 → (length s ≡ 0 → ⊥) → 1 ≡ three_way p s
+pub pattern_ends : (p s : List ℕ) → length p < 1 → 1 ≤ length s → No ≡ three_way p s
 unfolding three_way
-pattern_ends [] [] h k = absurd (k refl)
+pattern_ends [] [] h k = absurd (omega (arith, k))
 pattern_ends [] (c ∷ s) h k = refl
 pattern_ends (q ∷ p) s h k = absurd (omega (arith, h))
 
--- a `?`: the answer of what is after it stands if it is not 1
-pub any_stands : (p s : List ℕ) {r : ℕ} {p' : List ℕ} → (length p ≡ 0 → ⊥) → get_or p 0 0 ≡ 63 → p' ≡ drop 1 p → r ≡ three_way p' s → (r ≡ 1 → ⊥) → r ≡ three_way p s
+first_stands : (r a b : Match) → r ≡ a → (r ≡ No → ⊥) → r ≡ or_else a b
+first_stands Yes a b e n = rw (← e)
+first_stands No a b e n = absurd (n refl)
+first_stands NoTail a b e n = rw (← e)
+
+-- a `?`: what is after it decides, if it is not `No`
+pub any_stands : (p s : List ℕ) {r : Match} → 1 ≤ length p → get_or p 0 0 ≡ 63 → r ≡ three_way (rest p) s → (r ≡ No → ⊥) → r ≡ three_way p s
 unfolding three_way
-any_stands [] s h e u m n = absurd (h refl)
-any_stands (q ∷ p) [] {r} h e u m n = rw (e, ← (rw u at m), ne_eqb r 1 n)
-any_stands (q ∷ p) (c ∷ s) {r} h e u m n = rw (e, ← (rw u at m), ne_eqb r 1 n)
+any_stands [] s h e m n = absurd (omega (arith, h))
+any_stands (q ∷ p) [] {r} h e m n = rw e (first_stands r _ _ (rw (rest_cons q p) at m) n)
+any_stands (q ∷ p) (c ∷ s) {r} h e m n = rw e (first_stands r _ _ (rw (rest_cons q p) at m) n)
 
--- it is 1, and the name is at its end
-pub any_ends : (p s : List ℕ) {r : ℕ} {p' : List ℕ} → (length p ≡ 0 → ⊥) → get_or p 0 0 ≡ 63 → p' ≡ drop 1 p → r ≡ three_way p' s → r ≡ 1 → length s ≡ 0 → 2 ≡ three_way p s
+-- it is `No`, and the name is at its end
+pub any_ends : (p s : List ℕ) {r : Match} → 1 ≤ length p → get_or p 0 0 ≡ 63 → r ≡ three_way (rest p) s → r ≡ No → length s < 1 → NoTail ≡ three_way p s
 unfolding three_way
-any_ends [] s h e u m i z = absurd (h refl)
-any_ends (q ∷ p) [] h e u m i z = rw (e, ← (rw u at m), i)
-any_ends (q ∷ p) (c ∷ s) h e u m i z = absurd (omega (arith, z))
+any_ends [] s h e m n z = absurd (omega (arith, h))
+any_ends (q ∷ p) [] h e m n z = rw (e, ← (rw (rest_cons q p) at m), n)
+any_ends (q ∷ p) (c ∷ s) h e m n z = absurd (omega (arith, z))
 
--- it is 1, and the `?` stands for one byte more
-pub any_more : (p s : List ℕ) {r t : ℕ} {p' s' : List ℕ} → (length p ≡ 0 → ⊥) → get_or p 0 0 ≡ 63 → p' ≡ drop 1 p → r ≡ three_way p' s → r ≡ 1 → (length s ≡ 0 → ⊥) → s' ≡ drop 1 s → t ≡ three_way p s' → t ≡ three_way p s
+-- it is `No`, and the `?` stands for one byte more
+pub any_more : (p s : List ℕ) {r t : Match} → 1 ≤ length p → get_or p 0 0 ≡ 63 → r ≡ three_way (rest p) s → r ≡ No → 1 ≤ length s → t ≡ three_way p (rest s) → t ≡ three_way p s
 unfolding three_way
-any_more [] s h e u m i z v k = absurd (h refl)
-any_more (q ∷ p) [] h e u m i z v k = absurd (z refl)
-any_more (q ∷ p) (c ∷ s) h e u m i z v k = (rw v at k) ∙ rw (e, ← (rw u at m), i)
+any_more [] s h e m n z k = absurd (omega (arith, h))
+any_more (q ∷ p) [] h e m n z k = absurd (omega (arith, z))
+any_more (q ∷ p) (c ∷ s) h e m n z k = (rw (rest_cons c s) at k) ∙ rw (e, ← (rw (rest_cons q p) at m), n)
 
-pub differs_some : (p s : List ℕ) {d : Bool} → (d ≡ true → Differs p s) → d ≡ true → 0 < length s
-differs_some p s m i = (m i).some
-
--- the name's first byte tells that what is after it answers 1
-pub any_passes : (p s : List ℕ) {d : Bool} {t : ℕ} {p' s' : List ℕ} → (length p ≡ 0 → ⊥) → get_or p 0 0 ≡ 63 → p' ≡ drop 1 p → (d ≡ true → Differs p' s) → d ≡ true → s' ≡ drop 1 s → t ≡ three_way p s' → t ≡ three_way p s
-any_passes p s h e u m i v k =
-    let w = m i in any_more p s {r = 1} h e u (sym w.answer) refl (λ z. omega (arith, w.some, z)) v k
+-- the name's first byte tells that what is after the `?` answers `No`
+pub any_passes : (p s : List ℕ) {d : Bool} {t : Match} → 1 ≤ length p → get_or p 0 0 ≡ 63 → (d ≡ true → Differs (rest p) s) → d ≡ true → t ≡ three_way p (rest s) → t ≡ three_way p s
+any_passes p s h e m i k = let w = m i in any_more p s {r = No} h e (sym w.answer) refl w.some k
 
 -- no `?`, and the name is at its end
-pub name_ends : (p s : List ℕ) → (length p ≡ 0 → ⊥) → (get_or p 0 0 ≡ 63 → ⊥) → length s ≡ 0 → 2 ≡ three_way p s
+pub name_ends : (p s : List ℕ) → 1 ≤ length p → (get_or p 0 0 ≡ 63 → ⊥) → length s < 1 → NoTail ≡ three_way p s
 unfolding three_way
-name_ends [] s h n z = absurd (h refl)
+name_ends [] s h n z = absurd (omega (arith, h))
 name_ends (q ∷ p) [] h n z = rw (ne_eqb q 63 n)
 name_ends (q ∷ p) (c ∷ s) h n z = absurd (omega (arith, z))
 
 -- no `?`, and what is after it decides
-pub byte_stands : (p s : List ℕ) {f : Bool} {r : ℕ} {p' s' : List ℕ} → (length p ≡ 0 → ⊥) → (get_or p 0 0 ≡ 63 → ⊥) → (length s ≡ 0 → ⊥) → f ≡ stands_for (get_or p 0 0) (get_or s 0 0) → f ≡ true → p' ≡ drop 1 p → s' ≡ drop 1 s → r ≡ three_way p' s' → r ≡ three_way p s
+pub byte_stands : (p s : List ℕ) {f : Bool} {r : Match} → 1 ≤ length p → (get_or p 0 0 ≡ 63 → ⊥) → 1 ≤ length s → f ≡ stands_for (get_or p 0 0) (get_or s 0 0) → f ≡ true → r ≡ three_way (rest p) (rest s) → r ≡ three_way p s
 unfolding three_way
-byte_stands [] s h n z e t u v m = absurd (h refl)
-byte_stands (q ∷ p) [] h n z e t u v m = absurd (z refl)
-byte_stands (q ∷ p) (c ∷ s) h n z e t u v m = rw (ne_eqb q 63 n, sym e ∙ t) (rw (u, v) at m)
+byte_stands [] s h n z e t m = absurd (omega (arith, h))
+byte_stands (q ∷ p) [] h n z e t m = absurd (omega (arith, z))
+byte_stands (q ∷ p) (c ∷ s) h n z e t m = rw (ne_eqb q 63 n, sym e ∙ t) (rw (rest_cons q p, rest_cons c s) at m)
 
 -- no `?`, and it does not stand for the name's byte
-pub byte_differs : (p s : List ℕ) {f : Bool} → (length p ≡ 0 → ⊥) → (get_or p 0 0 ≡ 63 → ⊥) → (length s ≡ 0 → ⊥) → f ≡ stands_for (get_or p 0 0) (get_or s 0 0) → f ≡ false → 1 ≡ three_way p s
+pub byte_differs : (p s : List ℕ) {f : Bool} → 1 ≤ length p → (get_or p 0 0 ≡ 63 → ⊥) → 1 ≤ length s → f ≡ stands_for (get_or p 0 0) (get_or s 0 0) → f ≡ false → No ≡ three_way p s
 unfolding three_way
-byte_differs [] s h n z e t = absurd (h refl)
-byte_differs (q ∷ p) [] h n z e t = absurd (z refl)
+byte_differs [] s h n z e t = absurd (omega (arith, h))
+byte_differs (q ∷ p) [] h n z e t = absurd (omega (arith, z))
 byte_differs (q ∷ p) (c ∷ s) h n z e t = rw (ne_eqb q 63 n, sym e ∙ t)
 
 -- ---- of differs
 
-pub not_differs : {P : Type 0} → false ≡ true → P
-not_differs e = absurd (false≢true e)
-
-pub first_tells : (p s : List ℕ) {f : Bool} → (length p ≡ 0 → ⊥) → (length s ≡ 0 → ⊥) → (get_or p 0 0 ≡ 63 → ⊥) → f ≡ stands_for (get_or p 0 0) (get_or s 0 0) → not f ≡ true → Differs p s
-first_tells p s {f} h z n e t = record { some = omega (arith, z); answer = sym (byte_differs p s h n z e (sym (not-not f) ∙ ap not t)) }
+pub first_tells : (p s : List ℕ) {f : Bool} → 1 ≤ length p → 1 ≤ length s → (get_or p 0 0 ≡ 63 → ⊥) → f ≡ stands_for (get_or p 0 0) (get_or s 0 0) → not f ≡ true → Differs p s
+first_tells p s {f} h z n e t = record { some = z; answer = sym (byte_differs p s h n z e (sym (not-not f) ∙ ap not t)) }

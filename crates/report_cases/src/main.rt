@@ -2,38 +2,20 @@
 // The card on standard input: Z=4, N=8, S=5, mounted, one plain file of 5,000 bytes at (1024,4) and (2048,1).
 #![tactic(auto)]
 
-ghost use Rattle.std.specs.Prelude.{◌≤◌, length, IfOk};
-
 use requests::report::report;
 use std::io;
 use std::io::Read;
 
-// Reads until the buffer is full or the input ends, and says how many bytes there are.
-fn read_full(input: &mut impl Read, buffer: &mut [u8]) -> io::Result<usize>
-    ensures { IfOk result (λ n. n ≤ length buffer.new) }
-{
-    let mut done = 0;
-    while done < buffer.len() {
-        let n = input.read(&mut buffer[done..])?;
-        if n == 0 {
-            break;
-        }
-        done += n;
-    }
-    Ok(done)
-}
-
 fn show(rt: &impl Print, books: &[u8]) -> io::Result<()> {
     let t = report(books, &[0u32; 0]);
-    let length = t.length;
-    let bytes = t.bytes;
-    rt.write_all(&bytes[..length])
+    rt.write_all(t.as_bytes())
 }
 
 fn main(rt: HostRuntime) -> io::Result<()> {
     let mut books = [0u8; 5120];
-    let n = read_full(&mut rt.stdin(), &mut books)?;
-    show(&rt, &books[..n])?;
+    // No more comes than there is room for, which `copy` does not promise: hence `min`.
+    let n = io::copy(&mut rt.stdin().take(5120), &mut &mut books[..])?;
+    show(&rt, &books[..books.len().min(n as usize)])?;
     // no whole number of sectors: 1
     let short = [0u8; 5119];
     show(&rt, &short)?;

@@ -1,15 +1,14 @@
 -- The body's length: that the code tests it, each way on from 15 to the tests after it, and that a file's header lies in a body of that
 -- length.
-use mathlib.Core.Path.{◌≡◌, refl, sym, ap, ◌∙◌}
+use mathlib.Core.Path.{◌≡◌, refl, ap, ◌∙◌}
 use mathlib.Core.Logic.{◌≢◌}
 use mathlib.Core.Bool.{Bool, not, true, false}
 use mathlib.Core.List.{List, [], ◌∷◌}
-use Prim.Native.Nat.{ℕ, zero, suc, ◌+◌, ◌-◌, ◌*◌, ◌≤◌, ◌<◌}
+use Prim.Native.Nat.{ℕ, zero, suc, ◌+◌, ◌*◌, ◌≤◌, ◌<◌}
 use native.Mathlib.Omega.{arith}
-use lib.Dec.{eqb}
 use lib.ListN.{length}
 use Rattle.field.specs.Says.{Says}
-use Rattle.field.proofs.Tests.{passed, refused, says_eq}
+use Rattle.field.proofs.Tests.{passed, refused}
 use Rattle.tables.specs.declared.places.Places.{Places}
 use Rattle.tables.specs.Books.{GoodSome, GoodWith}
 use Rattle.tables.specs.Gates.{Test, Gate}
@@ -26,9 +25,6 @@ use Rattle.requests.specs.Body.{BodySized, body_test, lent_tests}
 use Rattle.requests.specs.State.{marked_body}
 use Rattle.requests.proofs.RequestLaws.{good_room}
 use Rattle.requests.proofs.ArgumentLaws.{good_at, says_this, this_says, argument_allowed, argument_good}
-
-pub sized_says : (b body : List ℕ) (z : ℕ) → z ≡ zones_of b → Says (eqb (length body) (1048576 * (z - 2))) (BodySized b body)
-sized_says b body z is = let e = ap (λ (x : ℕ). 1048576 * (x - 2)) is in says_eq (length body) (1048576 * (z - 2)) (λ h. h ∙ e) (λ h. h ∙ sym e)
 
 -- 15, then tests ts
 module _ (b body : List ℕ) (ts : List Test) (r : Bool) (s : Says r (BodySized b body)) where
@@ -78,6 +74,9 @@ module _ (b withheld body : List ℕ) where
 
     pub lent_good_at : (p : Places) → p ≡ places_of b → GoodSome b p
     lent_good_at p is = good_at b p lent_good is
+
+    pub lent_layout : (p : Places) → p ≡ places_of b → Layout p (length b)
+    lent_layout p is = (lent_good_at p is).1.layout
 
     pub lent_room : 2048 ≤ length b
     lent_room = good_room b (places_of b) lent_good.1

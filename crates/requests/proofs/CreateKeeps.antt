@@ -1,4 +1,6 @@
 -- Create fixed, create variable and grow keep the books good: the rules hold of the books afterwards, at the same places.
+use Rattle.tables.specs.declared.kinds.Index.{Index}
+use Rattle.std.specs.Prelude.{Option, Some, None, Result}
 use mathlib.Core.Path.{◌≡◌, refl}
 use mathlib.Core.List.{List, [], ◌∷◌}
 use Prim.Native.Nat.{ℕ, ◌+◌, ◌*◌, ◌≤◌, ◌<◌}
@@ -7,8 +9,6 @@ use native.Mathlib.Omega.{arith}
 use lib.ListN.{length}
 use borrow.Author.Tests.{lt-ltb, le-ltb}
 use Rattle.tables.specs.declared.places.Places.{Places}
-use Rattle.tables.specs.declared.counts.Chosen.{Chosen}
-use Rattle.tables.specs.declared.counts.Chosen.TheVariants.{Types, Bad}
 use Rattle.tables.specs.Books.{GoodWith}
 use Rattle.tables.specs.Counts.{counts_of, Countable}
 use Rattle.tables.specs.Dates.{Date}
@@ -29,11 +29,8 @@ use Rattle.allocation.proofs.FileLaws.{length_only, order_only, ready_start, rea
 use Rattle.allocation.proofs.HeldLawful.{quiet_good, many_sectors, supplied_sectors, all_only}
 use Rattle.allocation.proofs.CreatedLawful.{created_lawful, created_quiet}
 use Rattle.allocation.proofs.GrownLawful.{grown_lawful, grown_quiet, blocks_enough, lawful_typed}
-use Rattle.requests.specs.declared.amount.Amount.{Amount}
-use Rattle.requests.specs.declared.amount.Amount.TheVariants.{Below, Is}
-use Rattle.requests.specs.declared.create.Created.{Created}
 use Rattle.requests.specs.Amounts.{amount_value}
-use Rattle.requests.specs.Create.{NewFile, number_of, Creates, attribute_for, FixedAllowed, counts_for, CreatedFixed, cell_type, VariableAllowed, CreatedVariable}
+use Rattle.requests.specs.Create.{NewFile, Creates, attribute_for, FixedAllowed, counts_for, CreatedFixed, cell_type, VariableAllowed, CreatedVariable}
 use Rattle.requests.specs.Answers.{argument_tests}
 use Rattle.requests.specs.Named.{file_bytes}
 use Rattle.requests.specs.Grow.{grow_counts, lack_tests, grow_tests, grown_to, Grew}
@@ -43,6 +40,8 @@ use Rattle.requests.proofs.ArgumentLaws.{argument_allowed}
 use Rattle.requests.proofs.GrowLaws.{grow_allows, grow_parent, grow_variable, grow_room}
 use Rattle.requests.proofs.AmountLaws.{signed_most}
 use Rattle.requests.proofs.LongerLaws.{lack_provided}
+use Rattle.tables.specs.Refusals.{number_of}
+use Rattle.tables.specs.declared.refusal.Refusal.{Refusal}
 
 -- ---- a new file
 
@@ -52,14 +51,14 @@ made_keeps b p n counts g h new =
     quiet_good b (created p b n counts) p g (created_quiet p b n counts h new ready) (created_lawful p b n counts h new ready)
 
 -- both creates, done: where the arguments are allowed the file is lawful, and there is all that it takes
-pub creates_asks : (b withheld : List ℕ) (P : Type 0) (counts : List ℕ) (n : New) (r : Created) (b' : List ℕ) {extra : ℕ → ℕ} → GoodWith extra b (places_of b) → (P → NewLawful n counts × (length counts ≡ 6))
+pub creates_asks : (b withheld : List ℕ) (P : Type 0) (counts : List ℕ) (n : New) (r : Result Index Refusal) (b' : List ℕ) {extra : ℕ → ℕ} → GoodWith extra b (places_of b) → (P → NewLawful n counts × (length counts ≡ 6))
     → Creates (argument_tests b withheld P) b counts n r b' → number_of r ≡ 0 → NewLawful n counts × ProvidedWith extra (places_of b) b no_pointer counts
 creates_asks b withheld P counts n r b' g new h z =
     let q = rw z at h.number in
     let a = new (argument_allowed b withheld P 0 (gate_front (argument_tests b withheld P) _ q) refl) in
     (a.0, room_provides b (places_of b) no_pointer counts 0 g a.1 (gate_rest (argument_tests b withheld P) _ q) refl)
 
-creates_keeps : (b withheld : List ℕ) (P : Type 0) (counts : List ℕ) (n : New) (r : Created) (b' : List ℕ) (p : Places) {extra : ℕ → ℕ}
+creates_keeps : (b withheld : List ℕ) (P : Type 0) (counts : List ℕ) (n : New) (r : Result Index Refusal) (b' : List ℕ) (p : Places) {extra : ℕ → ℕ}
     → (P → NewLawful n counts × (length counts ≡ 6)) → Creates (argument_tests b withheld P) b counts n r b' → GoodWith extra b p → GoodWith extra b' p
 creates_keeps b withheld P counts n r b' p new h g =
     done_keeps (number_of r) (created (places_of b) b n counts) b b' p h.books (λ z.
@@ -92,12 +91,12 @@ unfolding sectors_in
 sectors_some [] h = absurd (omega arith)
 sectors_some (t ∷ ts) h = omega arith
 
-pub fixed_lawful : (name : List ℕ) (size : Amount) (types : Chosen) (kind : ℕ) (date : List ℕ) → FixedAllowed name size types kind date
+pub fixed_lawful : (name : List ℕ) (size : Option ℕ) (types : Option ℕ) (kind : ℕ) (date : List ℕ) → FixedAllowed name size types kind date
     → NewLawful (record { name = name; date = date; length = amount_value size; attribute = attribute_for 0 kind }) (counts_for types size) × (length (counts_for types size) ≡ 6)
-fixed_lawful name Below (Types w) kind date a = absurd a.counted
-fixed_lawful name Below Bad kind date a = absurd a.counted
-fixed_lawful name (Is n) Bad kind date a = absurd a.counted
-fixed_lawful name (Is n) (Types w) kind date a =
+fixed_lawful name None (Some w) kind date a = absurd a.counted
+fixed_lawful name None None kind date a = absurd a.counted
+fixed_lawful name (Some n) None kind date a = absurd a.counted
+fixed_lawful name (Some n) (Some w) kind date a =
     let c : Countable w n = a.counted in
     let most : n ≤ 1024 * sectors_in (in_order (counts_of w n)) = omega (arith, counts_enough w n c, supplied_sectors (counts_of w n)) in (
       new_lawful name kind date 0 n (counts_of w n) a.file (omega arith) (omega (arith, c.high)) most (λ z. c.low) (λ z. absurd (omega arith))
@@ -106,13 +105,13 @@ fixed_lawful name (Is n) (Types w) kind date a =
     )
 
 -- "the rules still hold" (demand 3): after create fixed
-pub fixed_keeps : (b withheld name : List ℕ) (size : Amount) (types : Chosen) (kind : ℕ) (date : List ℕ) (r : Created) (b' : List ℕ) (p : Places) {extra : ℕ → ℕ}
+pub fixed_keeps : (b withheld name : List ℕ) (size : Option ℕ) (types : Option ℕ) (kind : ℕ) (date : List ℕ) (r : Result Index Refusal) (b' : List ℕ) (p : Places) {extra : ℕ → ℕ}
     → CreatedFixed b withheld name size types kind date r b' → GoodWith extra b p → GoodWith extra b' p
 fixed_keeps b withheld name size types kind date r b' p = creates_keeps b withheld _ _ _ r b' p (fixed_lawful name size types kind date)
 
 -- ---- create variable
 
-pub variable_lawful : (name : List ℕ) (cell : Amount) (kind : ℕ) (date : List ℕ) → VariableAllowed name cell kind date
+pub variable_lawful : (name : List ℕ) (cell : Option ℕ) (kind : ℕ) (date : List ℕ) → VariableAllowed name cell kind date
     → NewLawful (record { name = name; date = date; length = 0; attribute = attribute_for 1 kind }) (only_counts (cell_type cell) 1) × (length (only_counts (cell_type cell) 1) ≡ 6)
 variable_lawful name cell kind date a =
     let t = cell_type cell in
@@ -123,7 +122,7 @@ variable_lawful name cell kind date a =
     )
 
 -- "the rules still hold" (demand 3): after create variable
-pub variable_keeps : (b withheld name : List ℕ) (cell : Amount) (kind : ℕ) (date : List ℕ) (r : Created) (b' : List ℕ) (p : Places) {extra : ℕ → ℕ}
+pub variable_keeps : (b withheld name : List ℕ) (cell : Option ℕ) (kind : ℕ) (date : List ℕ) (r : Result Index Refusal) (b' : List ℕ) (p : Places) {extra : ℕ → ℕ}
     → CreatedVariable b withheld name cell kind date r b' → GoodWith extra b p → GoodWith extra b' p
 variable_keeps b withheld name cell kind date r b' p = creates_keeps b withheld _ _ _ r b' p (variable_lawful name cell kind date)
 
@@ -155,7 +154,7 @@ module _ (b : List ℕ) (id long : ℕ) (date : List ℕ) {extra : ℕ → ℕ} 
   ]
 
 -- "the rules still hold" (demand 3): after grow
-pub grew_keeps : (b withheld : List ℕ) (id : ℕ) (long : Amount) (date : List ℕ) (r : ℕ) (b' : List ℕ) (p : Places) {extra : ℕ → ℕ} → Grew b withheld id long date r b' → GoodWith extra b p → GoodWith extra b' p
+pub grew_keeps : (b withheld : List ℕ) (id : ℕ) (long : Option ℕ) (date : List ℕ) (r : ℕ) (b' : List ℕ) (p : Places) {extra : ℕ → ℕ} → Grew b withheld id long date r b' → GoodWith extra b p → GoodWith extra b' p
 grew_keeps b withheld id long date r b' p h g =
     done_keeps r (grown_to b id (amount_value long) date) b b' p h.books (λ z.
     (let q : Gate (grow_tests b withheld id long date) 0 = rw z at h.number in

@@ -1,6 +1,5 @@
 -- Actual delete: each way out, and that its promise allows one result.
 use mathlib.Core.Path.{◌≡◌, ap, ◌∙◌}
-use mathlib.Core.Logic.{◌≢◌}
 use mathlib.Core.List.{List}
 use Prim.Native.Nat.{ℕ}
 use lib.ListN.{length}
@@ -15,13 +14,10 @@ use Rattle.files.specs.HeaderBytes.{header_marked}
 use Rattle.files.specs.Release.{released}
 use Rattle.requests.specs.State.{recover_tests}
 use Rattle.requests.specs.Delete.{Deleted}
-use Rattle.requests.proofs.RequestLaws.{after_refused, after_one}
+use Rattle.requests.proofs.RequestLaws.{after_one}
 use Rattle.requests.proofs.StateLaws.{recover_asks}
 
 module _ (b withheld body : List ℕ) (id : ℕ) (date : List ℕ) (n : ℕ) (g : Gate (recover_tests b withheld body id date) n) where
-  pub delete_refused : n ≢ 0 → Deleted b withheld body id date n b body
-  delete_refused h = record { number = g; books = after_refused n _ b h; body'' = after_refused n _ body h }
-
   module _ (e : n ≡ 0) (p : Places) (is : p ≡ places_of b) where
     -- what giving the file back asks
     pub delete_asks : Layout p (length b) × (LawfulSome p b × (Parent (view_of p b) id × ((deleted_bit (attribute_of (table_at p b id)) ≡ 1) × (length date ≡ 6))))

@@ -1,18 +1,16 @@
 -- Format: what its tests know at each way out, that its promise has one outcome, and that fresh books are good.
-use mathlib.Core.Path.{◌≡◌, refl, sym, ap₂, ◌∙◌}
-use mathlib.Core.Logic.{inl, inr, ◌≢◌}
+use Rattle.std.specs.Prelude.{Option, Some, None}
+use mathlib.Core.Path.{◌≡◌, refl, sym}
+use mathlib.Core.Logic.{inl, inr}
 use mathlib.Core.Bool.{Bool, not, true, false}
 use mathlib.Core.List.{List, []}
 use Prim.Native.Nat.{ℕ, ◌≤◌}
 use native.Mathlib.Omega.{arith}
 use lib.ListN.{length}
 use Rattle.field.specs.Says.{Says}
-use Rattle.field.proofs.Tests.{passed, refused, says_map}
-use Rattle.tables.specs.declared.places.Places.{Places}
+use Rattle.field.proofs.Tests.{passed, refused}
 use Rattle.tables.specs.Gates.{Gate}
-use Rattle.tables.specs.Dates.{Date}
 use Rattle.tables.specs.Books.{Sized, Good, GoodWith}
-use Rattle.tables.specs.Rules.R1.{Stand}
 use Rattle.tables.specs.Rules.R7.{nothing}
 use Rattle.tables.specs.Views.{view_of}
 use Rattle.tables.specs.Format.{Label, Formattable, Writable, fresh_places, formatted}
@@ -20,63 +18,22 @@ use Rattle.tables.proofs.GateLaws.{gate_one, gate_head}
 use Rattle.tables.proofs.PlaceLaws.{stand_layout}
 use Rattle.tables.proofs.WithheldLaws.{good_same, none_withheld, none_list}
 use Rattle.tables.proofs.FormatLaws.{format_length, format_marked, format_places, format_placed, format_lawful}
-use Rattle.requests.specs.declared.amount.Amount.{Amount}
-use Rattle.requests.specs.declared.amount.Amount.TheVariants.{Below, Is}
 use Rattle.requests.specs.Format.{Fits, format_tests, Formatted}
 use Rattle.requests.specs.Amounts.{amount_value}
-use Rattle.requests.proofs.RequestLaws.{after_refused, after_one}
+use Rattle.requests.proofs.RequestLaws.{after_one}
 
 -- ---- Z and N
 
-pub stands_asks : (p : Places) (z n len : ℕ) → p ≡ fresh_places z n → z ≤ 256 → n ≤ 4096 → len ≤ 1048576
-    → (p.zones ≤ 256) × (p.indexes ≤ 4096) × (len ≤ 1048576)
-stands_asks p z n len e h k l = rw e (h, k, l)
-
-pub formattable_says : (r : Bool) (p : Places) (len z n : ℕ) → p ≡ fresh_places z n → 3 ≤ z → z ≤ 256 → 1 ≤ n → n ≤ 4096
-    → Says r (Stand p len) → Says r (Formattable len z n)
-formattable_says r p len z n e least most some few s =
-    says_map r (λ h. record { least = least; most = most; some = some; few = few; stand = rw (← e) h }) (λ f. rw e f.stand) s
-
--- below 0 nothing fits
-pub zones_below : (len : ℕ) (z n : Amount) → z ≡ Below → Fits len z n → ⊥
-zones_below len z n e = rw e (λ h. h)
-
-pub indexes_below : (len : ℕ) (z n : Amount) → n ≡ Below → Fits len z n → ⊥
-indexes_below len (Is z) n e = rw e (λ h. h)
-indexes_below len Below n e = λ h. h
-
-pub fits_says : (r : Bool) (len x y : ℕ) (z n : Amount) → z ≡ Is x → n ≡ Is y → Says r (Formattable len x y) → Says r (Fits len z n)
-fits_says r len x y z n d e s = rw (d, e) s
-
-pub fits_sizes : (len : ℕ) (z n : Amount) → Fits len z n → Formattable len (amount_value z) (amount_value n)
-fits_sizes len (Is z) (Is n) h = h
-fits_sizes len (Is z) Below h = absurd h
-fits_sizes len Below n h = absurd h
+pub fits_sizes : (len : ℕ) (z n : Option ℕ) → Fits len z n → Formattable len (amount_value z) (amount_value n)
+fits_sizes len (Some z) (Some n) h = h
+fits_sizes len (Some z) None h = absurd h
+fits_sizes len None n h = absurd h
 
 -- ---- texts and date
 
-pub writable_says : (r : Bool) (l : Label) → length l.application ≤ 16 → length l.volume ≤ 32 → length l.owner ≤ 32 → length l.code ≤ 32 → Says r (Date l.date) → Says r (Writable l)
-writable_says r l a v o c s = says_map r (λ d. record { application = a; volume = v; owner = o; code = c; date = d }) (λ w. w.date) s
-
 -- ---- the number
 
-pub sized_most : (b : List ℕ) (r : Bool) → Says r (Sized b) → not r ≡ false → length b ≤ 1048576
-sized_most b r s e = (passed r s e).most
-
-module _ (b : List ℕ) (z n : Amount) (application volume : List ℕ) (id : ℕ) (owner code date : List ℕ) where
-  abbrev label : Label
-  label = record { application = application; volume = volume; id = id; owner = owner; code = code; date = date }
-
-  -- the same of any id
-  abbrev bare : Label
-  bare = record { application = application; volume = volume; id = 0; owner = owner; code = code; date = date }
-
-  with_id : Writable bare → Writable label
-  with_id w = record { application = w.application; volume = w.volume; owner = w.owner; code = w.code; date = w.date }
-
-  without_id : Writable label → Writable bare
-  without_id w = record { application = w.application; volume = w.volume; owner = w.owner; code = w.code; date = w.date }
-
+module _ (b : List ℕ) (z n : Option ℕ) (label : Label) where
   module _ (r : Bool) (s : Says r (Sized b)) where
     pub number_sized : not r ≡ true → Gate (format_tests b z n label) 1
     unfolding Gate
@@ -87,40 +44,33 @@ module _ (b : List ℕ) (z n : Amount) (application volume : List ℕ) (id : ℕ
       unfolding Gate
       number_fits e = inl (passed r s pass, inr (refused q t e, refl, λ h. omega arith))
 
-      module _ (pass' : not q ≡ false) (v : Bool) (u : Says v (Writable bare)) where
+      module _ (pass' : not q ≡ false) (v : Bool) (u : Says v (Writable label)) where
         pub number_texts : not v ≡ true → Gate (format_tests b z n label) 7
         unfolding Gate
-        number_texts e = inl (passed r s pass, inl (passed q t pass', inr (λ w. refused v u e (without_id w), refl, λ h. omega arith)))
+        number_texts e = inl (passed r s pass, inl (passed q t pass', inr (refused v u e, refl, λ h. omega arith)))
 
         pub number_none : not v ≡ false → Gate (format_tests b z n label) 0
         unfolding Gate
-        number_none e = inl (passed r s pass, inl (passed q t pass', inl (with_id (passed v u e), refl)))
+        number_none e = inl (passed r s pass, inl (passed q t pass', inl (passed v u e, refl)))
 
 -- ---- the request
 
 -- number 0: all that the writing asks
-zero_passes : (b : List ℕ) (z n : Amount) (l : Label) (r : ℕ) → Gate (format_tests b z n l) r → r ≡ 0 → Sized b × (Fits (length b) z n × Writable l)
+zero_passes : (b : List ℕ) (z n : Option ℕ) (l : Label) (r : ℕ) → Gate (format_tests b z n l) r → r ≡ 0 → Sized b × (Fits (length b) z n × Writable l)
 zero_passes b z n l r g e =
     let s = gate_head 1 (Sized b) _ (rw e at g) in
     let f = gate_head 3 (Fits (length b) z n) _ s.1 in
     (s.0, (f.0, (gate_head 7 (Writable l) _ f.1).0))
 
-pub format_refused : (b : List ℕ) (z n : Amount) (l : Label) (r : ℕ) → Gate (format_tests b z n l) r → r ≢ 0 → Formatted b z n l r b
-format_refused b z n l r g h = record { number = g; books = after_refused r _ b h }
-
-pub format_asks : (b : List ℕ) (z n : Amount) (l : Label) (r x y : ℕ) → Gate (format_tests b z n l) r → r ≡ 0 → x ≡ amount_value z → y ≡ amount_value n
+pub format_asks : (b : List ℕ) (z n : Option ℕ) (l : Label) (r x y : ℕ) → Gate (format_tests b z n l) r → r ≡ 0 → x ≡ amount_value z → y ≡ amount_value n
     → Formattable (length b) x y × (((5120 ≤ length b) × (length b ≤ 1048576)) × Writable l)
 format_asks b z n l r x y g e d f =
     let a = zero_passes b z n l r g e in
     (rw (d, f) (fits_sizes (length b) z n a.1.0), ((a.0.least, a.0.most), a.1.1))
 
-pub format_done : (b b' : List ℕ) (z n : Amount) (l : Label) (r x y : ℕ) → Gate (format_tests b z n l) r → r ≡ 0 → x ≡ amount_value z → y ≡ amount_value n
-    → b' ≡ formatted (length b) x y l → Formatted b z n l 0 b'
-format_done b b' z n l r x y g e d f h = record { number = rw e at g; books = h ∙ ap₂ (λ (i j : ℕ). formatted (length b) i j l) d f }
-
 -- ---- what the promise is worth
 
-pub formatted_one : {b : List ℕ} {z n : Amount} {l : Label} {r s : ℕ} {x y : List ℕ} → Formatted b z n l r x → Formatted b z n l s y → (r ≡ s) × (x ≡ y)
+pub formatted_one : {b : List ℕ} {z n : Option ℕ} {l : Label} {r s : ℕ} {x y : List ℕ} → Formatted b z n l r x → Formatted b z n l s y → (r ≡ s) × (x ≡ y)
 formatted_one {b} {z} {n} {l} {r} {s} {x} {y} f g =
     let e = gate_one (format_tests b z n l) r s f.number g.number in
     (e, after_one r s x y _ b e f.books g.books)
@@ -138,7 +88,7 @@ fresh_good b z n l s f w =
       lawful = format_lawful (length b) z n l s.least s.most f w;
     }
 
-pub formatted_good : (b : List ℕ) (z n : Amount) (l : Label) (b' : List ℕ) → Formatted b z n l 0 b' → Good b' [] (fresh_places (amount_value z) (amount_value n))
+pub formatted_good : (b : List ℕ) (z n : Option ℕ) (l : Label) (b' : List ℕ) → Formatted b z n l 0 b' → Good b' [] (fresh_places (amount_value z) (amount_value n))
 formatted_good b z n l b' f =
     let a = zero_passes b z n l 0 f.number refl in
     let p = fresh_places (amount_value z) (amount_value n) in

@@ -1,26 +1,24 @@
 -- Grow: each way out, and that grow's promise allows one result.
+use Rattle.std.specs.Prelude.{Option}
 use mathlib.Core.Path.{◌≡◌, refl, ap, ◌∙◌}
 use mathlib.Core.Logic.{◌≢◌}
 use mathlib.Core.Bool.{Bool, not, true, false}
 use mathlib.Core.List.{List, [], ◌++◌}
-use Prim.Native.Nat.{ℕ, ◌≤◌, ◌<◌}
+use Prim.Native.Nat.{ℕ}
 use native.Mathlib.Omega.{arith}
 use lib.ListN.{length}
 use Rattle.field.specs.Says.{Says}
-use Rattle.field.proofs.Tests.{passed, refused, says_map}
-use Rattle.tables.specs.Dates.{Date}
+use Rattle.field.proofs.Tests.{passed, refused}
 use Rattle.tables.specs.Places.{places_of}
 use Rattle.tables.specs.Gates.{Gate}
 use Rattle.tables.specs.Books.{GoodSome}
 use Rattle.tables.specs.Views.{view_of, Parent}
 use Rattle.tables.proofs.GateLaws.{gate_one, gate_fails, gate_passes, gate_end, gate_stop, gate_skip, gate_rest, gate_head, gate_front}
-use Rattle.requests.specs.declared.amount.Amount.{Amount}
-use Rattle.requests.specs.declared.amount.Amount.TheVariants.{Below, Is}
 use Rattle.requests.specs.Answers.{argument_tests}
 use Rattle.requests.specs.Amounts.{amount_value}
 use Rattle.requests.specs.Named.{named_tests, Unprotected, VariableSize}
 use Rattle.requests.specs.Grow.{GrowAllowed, kind_tests, lack_tests, file_tests, grow_tests, grown_to, Grew}
-use Rattle.requests.proofs.RequestLaws.{after_refused, after_one}
+use Rattle.requests.proofs.RequestLaws.{after_one}
 use Rattle.requests.proofs.ArgumentLaws.{argument_says, argument_allowed, argument_good}
 use Rattle.requests.proofs.NamedLaws.{named_parent}
 
@@ -58,19 +56,9 @@ module _ (b : List ℕ) (id long : ℕ) where
 
 -- ---- arguments
 
-module _ (long : Amount) (date : List ℕ) where
-  pub grow_below : long ≡ Below → GrowAllowed long date → ⊥
-  grow_below e a = rw e at a.long'
-
-  pub grow_beyond : (n : ℕ) → long ≡ Is n → 2147483647 < n → GrowAllowed long date → ⊥
-  grow_beyond n e h a = let l : n ≤ 2147483647 = rw e at a.long' in omega arith
-
-  pub grow_says : (n : ℕ) (r : Bool) → long ≡ Is n → n ≤ 2147483647 → Says r (Date date) → Says r (GrowAllowed long date)
-  grow_says n r e h s = says_map r (λ d. record { long' = rw e h; date' = d }) (λ a. a.date') s
-
 -- ---- the request
 
-module _ (b withheld : List ℕ) (id : ℕ) (long : Amount) (date : List ℕ) where
+module _ (b withheld : List ℕ) (id : ℕ) (long : Option ℕ) (date : List ℕ) where
   module _ (a : Bool) (n : ℕ) (s : Says a (GrowAllowed long date)) (g : Gate (argument_tests b withheld (a ≡ true)) n) where
     pub grow_stops : n ≢ 0 → Gate (grow_tests b withheld id long date) n
     unfolding grow_tests
@@ -113,15 +101,12 @@ module _ (b withheld : List ℕ) (id : ℕ) (long : Amount) (date : List ℕ) wh
     pub grow_date : length date ≡ 6
     grow_date = grow_allows.date'.long
 
-  pub grow_refused : (n : ℕ) → Gate (grow_tests b withheld id long date) n → n ≢ 0 → Grew b withheld id long date n b
-  grow_refused n g h = record { number = g; books = after_refused n _ b h }
-
   pub grow_done : (n x : ℕ) (b' : List ℕ) → Gate (grow_tests b withheld id long date) n → n ≡ 0 → x ≡ amount_value long → b' ≡ grown_to b id x date → Grew b withheld id long date 0 b'
   grow_done n x b' g e is h = record { number = rw e at g; books = h ∙ ap (λ (m : ℕ). grown_to b id m date) is }
 
 -- ---- one result
 
-pub grew_one : (b withheld : List ℕ) (id : ℕ) (long : Amount) (date : List ℕ) (r s : ℕ) (x y : List ℕ) → Grew b withheld id long date r x → Grew b withheld id long date s y → (r ≡ s) × (x ≡ y)
+pub grew_one : (b withheld : List ℕ) (id : ℕ) (long : Option ℕ) (date : List ℕ) (r s : ℕ) (x y : List ℕ) → Grew b withheld id long date r x → Grew b withheld id long date s y → (r ≡ s) × (x ≡ y)
 grew_one b withheld id long date r s x y h k =
     let e = gate_one (grow_tests b withheld id long date) r s h.number k.number in
     (e, after_one r s x y _ b e h.books k.books)

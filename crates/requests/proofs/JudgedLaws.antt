@@ -1,4 +1,5 @@
 -- Numbers 1 to 5, and those that begin a mount: each way out, and what no number says.
+use Rattle.std.specs.Prelude.{Ok, Err}
 use mathlib.Core.Path.{◌≡◌, refl, sym, ◌∙◌}
 use mathlib.Core.Logic.{◌≢◌}
 use mathlib.Core.List.{List, [], ◌++◌}
@@ -12,27 +13,22 @@ use Rattle.tables.specs.Places.{places_of, Layout}
 use Rattle.tables.proofs.GateLaws.{gate_fails, gate_passes, gate_end, gate_stop, gate_skip, gate_front, zero_some, good_gate, bad_gate}
 use Rattle.requests.specs.Answers.{flag_tests, use_tests}
 use Rattle.requests.proofs.RequestLaws.{good_room}
-use Rattle.examination.specs.declared.check.Checked.{Checked}
-use Rattle.examination.specs.declared.check.Checked.TheVariants.{Fine, Refused}
 use Rattle.requests.specs.Judged.{Judged}
+use Rattle.tables.specs.declared.refusal.Refusal.{Refusal}
+use Rattle.tables.specs.Refusals.{number}
+use Rattle.tables.proofs.RefusalLaws.{refused}
+use Rattle.tables.specs.declared.refusal.Refusal.TheVariants.{NotMounted}
 
-module _ (b withheld : List ℕ) (f n : ℕ) where
-  pub judge_refused : (k : ℕ) → Gate (book_tests b withheld) k × (k ≢ 0) → Judged (flag_tests f n b withheld) b (Refused k)
-  judge_refused k h = (bad_gate b withheld _ k h, h.1)
+module _ (b withheld : List ℕ) (f : ℕ) (refusal : Refusal) where
+  pub judge_refused : (e : Refusal) → Gate (book_tests b withheld) (number e) → Judged (flag_tests f (number refusal) b withheld) b (Err e)
+  judge_refused e h = bad_gate b withheld _ (number e) (h, refused e)
 
   module _ (p : Places) (x : ℕ) (g : Good b withheld p) (h : x ≡ flag_of b) where
-    pub judge_flag : n ≢ 0 → x ≡ f → Judged (flag_tests f n b withheld) b (Refused n)
-    judge_flag ne e = (good_gate b withheld p _ n g (gate_fails n (flag_of b ≢ f) [] ne (λ k. k (sym h ∙ e))), ne)
+    pub judge_flag : x ≡ f → Judged (flag_tests f (number refusal) b withheld) b (Err refusal)
+    judge_flag e = good_gate b withheld p _ (number refusal) g (gate_fails (number refusal) (flag_of b ≢ f) [] (refused refusal) (λ k. k (sym h ∙ e)))
 
-    pub judge_fine : x ≢ f → Judged (flag_tests f n b withheld) b (Fine p)
-    judge_fine ne = ((_, g.books), good_gate b withheld p _ 0 g (gate_passes n (flag_of b ≢ f) [] 0 (λ e. ne (h ∙ e)) gate_end))
-
--- what a judge found, arm by arm
-pub judged_good : (tests : List Test) (b : List ℕ) (found : Checked) (p : Places) → Judged tests b found → found ≡ Fine p → GoodSome b p × Gate tests 0
-judged_good tests b found p h e = rw e at h
-
-pub judged_bad : (tests : List Test) (b : List ℕ) (found : Checked) (n : ℕ) → Judged tests b found → found ≡ Refused n → Gate tests n × (n ≢ 0)
-judged_bad tests b found n h e = rw e at h
+    pub judge_fine : x ≢ f → Judged (flag_tests f (number refusal) b withheld) b (Ok p)
+    judge_fine ne = ((_, g.books), good_gate b withheld p _ 0 g (gate_passes (number refusal) (flag_of b ≢ f) [] 0 (λ e. ne (h ∙ e)) gate_end))
 
 module _ (b withheld : List ℕ) where
   -- ---- numbers 1 to 5
@@ -43,7 +39,7 @@ module _ (b withheld : List ℕ) where
 
   pub use_fine : (p : Places) (f : ℕ) → Good b withheld p → f ≡ flag_of b → f ≢ 0 → Gate (use_tests b withheld) 0
   unfolding use_tests
-  use_fine p f g h ne = (judge_fine b withheld 0 5 p f g h ne).1
+  use_fine p f g h ne = (judge_fine b withheld 0 NotMounted p f g h ne).1
 
   -- what a number 0 says
   module _ (n : ℕ) (h : Gate (use_tests b withheld) n) (e : n ≡ 0) where

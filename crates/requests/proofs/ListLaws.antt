@@ -1,12 +1,12 @@
 -- List: which files are listed, the entries made index by index, each way out, and that its promise allows one result.
+use Rattle.std.specs.Prelude.{Result, Ok, Err}
 use mathlib.Core.Path.{◌≡◌, refl, sym, ap, ap₂, ◌∙◌}
-use mathlib.Core.Logic.{◌≢◌}
-use mathlib.Core.Bool.{Bool, true, false, not, cond, ◌&&◌}
+use mathlib.Core.Bool.{Bool, true, false, cond, ◌&&◌}
 use mathlib.Core.List.{List, [], ◌∷◌, ◌++◌, append-nil, append_assoc}
-use Prim.Native.Nat.{ℕ, zero, suc, ◌+◌, ◌-◌, ◌*◌, ◌/◌, ◌≤◌, ◌<◌}
+use Prim.Native.Nat.{ℕ, ◌+◌, ◌-◌, ◌*◌, ◌/◌, ◌≤◌, ◌<◌}
 use native.Mathlib.Decide.{dec_lt}
 use native.Mathlib.Omega.{arith}
-use borrow.Author.Tests.{le-leb, lt-leb, lt-ltb, le-ltb, leb-true, leb-false, not-true, not-false}
+use borrow.Author.Tests.{le-leb, lt-leb, lt-ltb, le-ltb, leb-true, leb-false}
 use lib.Dec.{leb, ltb}
 use lib.ListN.{length, take, drop, length-append}
 use lib.Seq.{length-take-le, take-nil, take_all, take-append-le, take-append_seam, drop-drop, drop-append-add}
@@ -19,15 +19,17 @@ use Rattle.tables.specs.Places.{places_of, Layout}
 use Rattle.tables.specs.Views.{View, view_of}
 use Rattle.tables.proofs.GateLaws.{gate_one}
 use Rattle.tables.proofs.IndexLaws.{length_table}
-use Rattle.requests.specs.declared.answer.Answer.{Answer}
-use Rattle.requests.specs.declared.answer.Answer.TheVariants.{Done, Refused}
-use Rattle.requests.specs.Answers.{number_of, argument_tests}
+use Rattle.requests.specs.Answers.{argument_tests}
 use Rattle.requests.specs.Active.{is_active, passing}
 use Rattle.requests.specs.Listing.{is_listed, listed, fronts, Listed}
-use Rattle.requests.proofs.RequestLaws.{after_one, answers_one}
+use Rattle.requests.proofs.RequestLaws.{after_one, after_refused}
 use Rattle.requests.proofs.ArgumentLaws.{argument_says}
 use Rattle.requests.proofs.SearchRequestLaws.{over_front}
 use Rattle.requests.proofs.ActiveLaws.{passing_next}
+use Rattle.tables.specs.Refusals.{number_of}
+use Rattle.tables.specs.declared.refusal.Refusal.{Refusal}
+use Rattle.tables.specs.Refusals.{number}
+use Rattle.tables.proofs.RefusalLaws.{refused, answers_one}
 
 -- ---- one index
 
@@ -39,18 +41,6 @@ module _ (v : View) (from i : ℕ) where
   pub listed_says : (r : Bool) → from ≤ i → r ≡ is_active v i → r ≡ is_listed v from i
   unfolding is_listed
   listed_says r h e = rw (le-leb from i h) e
-
--- what it adds, on each way out of the code: n of k entries stand in y, and with one more the bytes are x
-module _ (m : Bool) (n k : ℕ) (x y : List ℕ) where
-  pub front_full : k ≤ n → (n ≡ cond (ltb n k && m) (n + 1) n) × (y ≡ cond (ltb n k && m) x y)
-  front_full h = rw (le-ltb n k h) (refl, refl)
-
-  module _ (t : Bool) (l : n < k) (e : t ≡ m) where
-    pub front_none : not t ≡ true → (n ≡ cond (ltb n k && m) (n + 1) n) × (y ≡ cond (ltb n k && m) x y)
-    front_none h = rw (lt-ltb n k l, ← e, not-true t h) (refl, refl)
-
-    pub front_here : (z : List ℕ) → not t ≡ false → z ≡ x → (n + 1 ≡ cond (ltb n k && m) (n + 1) n) × (z ≡ cond (ltb n k && m) x y)
-    front_here z h is = rw (lt-ltb n k l, ← e, not-false t h) (refl, is)
 
 -- its bytes are copied
 pub front_long : (t : List ℕ) → length t ≡ 128 → 64 ≡ length (take 64 t)
@@ -133,16 +123,12 @@ module _ (v : View) (from : ℕ) (l : List ℕ) where
         long = long ∙ h.long;
       }
 
-  pub filled_all : (i n m : ℕ) (x : List ℕ) → Filled v from l i n x → i ≤ m + 1 → m < i
-      → (n ≡ length (take (length l / 64) (passing (is_listed v from) m))) × (x ≡ over l 0 (fronts v (take (length l / 64) (passing (is_listed v from) m))))
-  filled_all i n m x h le gt = let e : i - 1 ≡ m = omega arith in (rw e at h.count, rw e at h.bytes)
-
-pub filled_more : (p : Places) (b : List ℕ) (from : ℕ) (l : List ℕ) (i n r : ℕ) (x x' : List ℕ) → Layout p (length b) → i ≤ p.indexes → Filled (view_of p b) from l i n x
+pub filled_more : (p : Places) (b : List ℕ) (from : ℕ) (l : List ℕ) (i n r : ℕ) (x x' : List ℕ) → Layout p (length b) → i < p.indexes + 1 → Filled (view_of p b) from l i n x
     → r ≡ cond (ltb n (length x / 64) && is_listed (view_of p b) from i) (n + 1) n
     → x' ≡ cond (ltb n (length x / 64) && is_listed (view_of p b) from i) (over x (64 * n) (take 64 (table_at p b i))) x → length x' ≡ length x → Filled (view_of p b) from l (i + 1) r x'
 filled_more p b from l i n r x x' lay hi h e g long =
     let test = is_listed (view_of p b) from in
-    filled_next (view_of p b) from l i n r x x' (ltb n (length l / 64) && test i) h (length_table p b i lay h.low hi) (rw h.long at e) (rw h.long at g) long
+    filled_next (view_of p b) from l i n r x x' (ltb n (length l / 64) && test i) h (length_table p b i lay h.low (omega arith)) (rw h.long at e) (rw h.long at g) long
     (ap (take (length l / 64)) (passing_next test i h.low) ∙ take_next (length l / 64) n (passing test (i - 1)) (test i) i h.count)
 
 -- ---- the request
@@ -155,23 +141,22 @@ module _ (b withheld : List ℕ) (from : ℕ) (l : List ℕ) where
       go true e = leb-true 1 from e
       go false e = λ h. let q = leb-false 1 from e in omega arith
 
-  pub list_refused : (n : ℕ) → Gate (argument_tests b withheld (leb 1 from ≡ true)) n → n ≢ 0 → Listed b withheld from l (Refused n) l
-  list_refused zero g h = absurd (h refl)
-  list_refused (suc k) g h = record { number = argument_says b withheld (leb 1 from) (1 ≤ from) (suc k) from_says g; answer = refl; bytes = refl }
+  pub list_refused : (why : Refusal) → Gate (argument_tests b withheld (leb 1 from ≡ true)) (number why) → Listed b withheld from l (Err why) l
+  list_refused why g = record { number = argument_says b withheld (leb 1 from) (1 ≤ from) (number why) from_says g; answer = tt; bytes = after_refused (number why) _ l (refused why) }
 
-  pub list_done : (n m : ℕ) (p : Places) (l' : List ℕ) → Gate (argument_tests b withheld (leb 1 from ≡ true)) n → n ≡ 0 → p ≡ places_of b
+  pub list_done : (m : ℕ) (p : Places) (l' : List ℕ) → Gate (argument_tests b withheld (leb 1 from ≡ true)) 0 → p ≡ places_of b
       → m ≡ length (take (length l / 64) (passing (is_listed (view_of p b) from) p.indexes))
-      → l' ≡ over l 0 (fronts (view_of p b) (take (length l / 64) (passing (is_listed (view_of p b) from) p.indexes))) → Listed b withheld from l (Done m) l'
+      → l' ≡ over l 0 (fronts (view_of p b) (take (length l / 64) (passing (is_listed (view_of p b) from) p.indexes))) → Listed b withheld from l (Ok m) l'
   unfolding listed
-  list_done n m p l' g e h c f = record {
-    number = rw e at (argument_says b withheld (leb 1 from) (1 ≤ from) n from_says g);
-    answer = ap Done (rw h at c);
+  list_done m p l' g h c f = record {
+    number = argument_says b withheld (leb 1 from) (1 ≤ from) 0 from_says g;
+    answer = rw h at c;
     bytes = rw h at f;
   }
 
 -- ---- one result
 
-pub listed_one : (b withheld : List ℕ) (from : ℕ) (entries : List ℕ) (r s : Answer) (x y : List ℕ) → Listed b withheld from entries r x → Listed b withheld from entries s y → (r ≡ s) × (x ≡ y)
+pub listed_one : (b withheld : List ℕ) (from : ℕ) (entries : List ℕ) (r s : Result ℕ Refusal) (x y : List ℕ) → Listed b withheld from entries r x → Listed b withheld from entries s y → (r ≡ s) × (x ≡ y)
 listed_one b withheld from entries r s x y h k =
     let e = gate_one _ (number_of r) (number_of s) h.number k.number in
-    (answers_one r s _ _ h.answer k.answer e refl, after_one (number_of r) (number_of s) x y _ entries e h.bytes k.bytes)
+    (answers_one r s _ _ h.answer k.answer (λ x y p q. p ∙ sym q) e, after_one (number_of r) (number_of s) x y _ entries e h.bytes k.bytes)

@@ -1,4 +1,5 @@
 -- Locate and show: each way out, and that each promise allows one result.
+use Rattle.std.specs.Prelude.{Result}
 use mathlib.Core.Path.{◌≡◌, refl, sym, ap, ◌∙◌}
 use mathlib.Core.Logic.{◌≢◌}
 use mathlib.Core.List.{List, [], ◌∷◌, ◌++◌}
@@ -19,17 +20,18 @@ use Rattle.files.specs.Spots.{spot_start, spot_of, kth_sector}
 use Rattle.files.specs.Asked.{OnSector}
 use Rattle.files.specs.Moves.{body_place}
 use Rattle.files.proofs.SpotLaws.{spot_on, kth_inside}
-use Rattle.requests.specs.declared.locate.Located.{Located}
-use Rattle.requests.specs.declared.locate.Located.TheVariants.{At, Refused}
 use Rattle.requests.specs.declared.show.Part.{Part}
 use Rattle.requests.specs.Answers.{use_tests}
 use Rattle.requests.specs.Named.{named_tests, usable_tests}
 use Rattle.requests.specs.Body.{BodySized}
-use Rattle.requests.specs.Locate.{HasSector, locate_tests, number_of, located_as, Locates, kth_of}
+use Rattle.requests.specs.Locate.{HasSector, locate_tests, Locates, kth_of}
 use Rattle.requests.specs.Show.{show_tests, part_of, ShownAt, bytes_of, Shown}
 use Rattle.requests.proofs.RequestLaws.{good_room}
 use Rattle.requests.proofs.NamedLaws.{state_file, usable_active}
 use Rattle.requests.proofs.JudgedLaws.{used_good}
+use Rattle.tables.specs.Refusals.{number_of}
+use Rattle.tables.specs.declared.refusal.Refusal.{Refusal}
+use Rattle.tables.proofs.RefusalLaws.{answers_one}
 
 -- ---- tests ts, then 14
 
@@ -71,17 +73,12 @@ module _ (b : List ℕ) (p : Places) (f k : ℕ) {extra : ℕ → ℕ} (g : Good
 
 -- ---- locate
 
-pub locate_refused : (b withheld : List ℕ) (id k n : ℕ) → Gate (locate_tests b withheld id k) n → n ≢ 0 → Locates b withheld id k (Refused n)
-locate_refused b withheld id k zero h ne = absurd (ne refl)
-locate_refused b withheld id k (suc n) h ne = record { number = h; answer = refl }
-
-module _ (b withheld : List ℕ) (id k n : ℕ) (h : Gate (locate_tests b withheld id k) n) (e : n ≡ 0) where
+module _ (b withheld : List ℕ) (id k : ℕ) (h : Gate (locate_tests b withheld id k) 0) where
   locate_file : GoodSome b (places_of b) × (Parent (view_of (places_of b) b) id × HasSector b id k)
   unfolding locate_tests
   locate_file =
-      let q : Gate (locate_tests b withheld id k) 0 = rw e at h in
-      let s = sector_has b id k (named_tests b id) (gate_rest (use_tests b withheld) _ q) in
-      (used_good b withheld _ q, ((state_file b id 0 s.0).0, s.1))
+      let s = sector_has b id k (named_tests b id) (gate_rest (use_tests b withheld) _ h) in
+      (used_good b withheld _ h, ((state_file b id 0 s.0).0, s.1))
 
   pub locate_room : 2048 ≤ length b
   locate_room = good_room b (places_of b) locate_file.0.1
@@ -89,9 +86,6 @@ module _ (b withheld : List ℕ) (id k n : ℕ) (h : Gate (locate_tests b withhe
   module _ (p : Places) (is : p ≡ places_of b) where
     pub locate_asks : GoodSome b p × (Parent (view_of p b) id × (k < file_sectors (view_of p b) id))
     locate_asks = rw is locate_file
-
-    pub locate_done : (s : Sector) → s.0 ≡ kth_sector (view_of p b) id k → Locates b withheld id k (At s)
-    locate_done s at = record { number = rw e at h; answer = ap (λ (x : ℕ). At (record { 0 = x })) (at ∙ ap (λ (x : Places). kth_sector (view_of x b) id k) is) }
 
 -- ---- a part of the body: n is the number, and c sectors from s on are shown
 
@@ -107,10 +101,6 @@ module _ (body : List ℕ) (s c : ℕ) where
   part_bytes (suc n) r e = rw (add-sub_cancel_left, e) refl
 
 -- ---- show
-
-pub show_refused : (b withheld body : List ℕ) (id k n : ℕ) → Gate (show_tests b withheld body id k) n → n ≢ 0 → ShownAt b withheld body id k (record { at = 0; len = 0 })
-show_refused b withheld body id k zero h ne = absurd (ne refl)
-show_refused b withheld body id k (suc n) h ne = record { number = suc n; gate = h; part = refl }
 
 module _ (b withheld body : List ℕ) (id k : ℕ) where
   module _ (h : Gate (show_tests b withheld body id k) 0) where
@@ -137,13 +127,6 @@ module _ (b withheld body : List ℕ) (id k : ℕ) where
       pub show_asks : GoodSome b p × (Parent (view_of p b) id × (k < file_sectors (view_of p b) id))
       show_asks = rw is (show_file (rw e at h))
 
-      pub show_placed : (s a : ℕ) → s ≡ kth_sector (view_of p b) id k → a ≡ body_place s → ShownAt b withheld body id k (record { at = a; len = 1024 })
-      show_placed s a at place = record {
-        number = 0;
-        gate = rw e at h;
-        part = ap (λ (x : ℕ). record { at = x; len = 1024 }) (place ∙ ap body_place (at ∙ ap (λ (x : Places). kth_sector (view_of x b) id k) is));
-      }
-
   module _ (r : Part) (h : ShownAt b withheld body id k r) where
     pub shown_inside : r.at + r.len ≤ length body
     shown_inside = part_inside body (kth_of b id k) 1 h.number r h.part (λ z. show_inside (rw z at h.gate))
@@ -153,10 +136,10 @@ module _ (b withheld body : List ℕ) (id k : ℕ) where
 
 -- ---- one result
 
-pub located_one : (b withheld : List ℕ) (id k : ℕ) (r s : Located) → Locates b withheld id k r → Locates b withheld id k s → r ≡ s
+pub located_one : (b withheld : List ℕ) (id k : ℕ) (r s : Result Sector Refusal) → Locates b withheld id k r → Locates b withheld id k s → r ≡ s
 located_one b withheld id k r s h l =
     let e = gate_one (locate_tests b withheld id k) (number_of r) (number_of s) h.number l.number in
-    h.answer ∙ ap (λ (n : ℕ). located_as n (kth_of b id k)) e ∙ sym l.answer
+    answers_one r s _ _ h.answer l.answer (λ x y p q. ap (λ (n : ℕ). record { 0 = n }) (p ∙ sym q)) e
 
 pub shown_at_one : (b withheld body : List ℕ) (id k : ℕ) (r s : Part) → ShownAt b withheld body id k r → ShownAt b withheld body id k s → r ≡ s
 shown_at_one b withheld body id k r s h l =

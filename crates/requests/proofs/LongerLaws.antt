@@ -4,11 +4,10 @@ use mathlib.Core.Logic.{inl, inr}
 use mathlib.Core.List.{List, []}
 use Prim.Native.Nat.{ℕ, ◌≤◌, ◌<◌}
 use native.Mathlib.Omega.{arith}
-use lib.ListN.{length}
 use borrow.Author.Tests.{lt-ltb, le-ltb}
 use Rattle.tables.specs.declared.places.Places.{Places}
 use Rattle.tables.specs.Indexes.{table_at, length_of}
-use Rattle.tables.specs.Places.{places_of, Layout}
+use Rattle.tables.specs.Places.{places_of}
 use Rattle.tables.specs.Gates.{Gate}
 use Rattle.tables.specs.Books.{GoodSome, GoodWith}
 use Rattle.tables.specs.Rules.R8.{file_type}
@@ -84,17 +83,5 @@ module _ (b : List ℕ) (p : Places) (id long : ℕ) (is : p ≡ places_of b) (t
 
 -- what reading the file's table and counting its blocks ask
 module _ (b : List ℕ) (p : Places) (id : ℕ) (is : p ≡ places_of b) (g : GoodSome b (places_of b)) (parent : Parent (view_of (places_of b) b) id) where
-  pub lengthen_good : GoodSome b p
-  lengthen_good = rw is g
-
-  pub lengthen_layout : Layout p (length b)
-  lengthen_layout = lengthen_good.1.layout
-
   pub lengthen_parent : Parent (view_of p b) id
   lengthen_parent = rw is parent
-
-  pub lengthen_low : 1 ≤ id
-  lengthen_low = parent.low
-
-  pub lengthen_high : id ≤ p.indexes
-  lengthen_high = lengthen_parent.high

@@ -3,12 +3,11 @@ use mathlib.Core.Path.{◌≡◌, sym, ap, ◌∙◌}
 use mathlib.Core.Logic.{◌≢◌}
 use mathlib.Core.Bool.{Bool, not, true, false}
 use mathlib.Core.List.{List, [], ◌∷◌}
-use Prim.Native.Nat.{ℕ, ◌/◌, ◌%◌, ◌≤◌, ◌<◌}
+use Prim.Native.Nat.{ℕ, ◌%◌, ◌≤◌, ◌<◌}
 use native.Mathlib.Omega.{arith}
 use borrow.Author.Tests.{not-true, not-false}
-use lib.Dec.{eqb}
 use Rattle.field.specs.Says.{Says}
-use Rattle.field.proofs.Tests.{passed, refused, says_eq}
+use Rattle.field.proofs.Tests.{passed, refused}
 use Rattle.tables.specs.declared.entry.Entry.{Entry}
 use Rattle.tables.specs.declared.places.Places.{Places}
 use Rattle.tables.specs.Entries.{entry_of, is_parent, is_variable}
@@ -29,9 +28,6 @@ module _ (b : List ℕ) (p : Places) (id : ℕ) {extra : ℕ → ℕ} (g : GoodW
   -- what the code reads: the file's table, by its bytes or decoded
   places_read : table_at p b id ≡ file_bytes b id
   places_read = ap (λ (q : Places). table_at q b id) g.places
-
-  pub attribute_read : (t : List ℕ) → t ≡ table_at p b id → (a : ℕ) → a ≡ attribute_of t → a ≡ attribute_of (file_bytes b id)
-  attribute_read t is a e = e ∙ ap attribute_of (is ∙ places_read)
 
   pub entry_read : (e : Entry) → e ≡ entry_of id (table_at p b id) → e ≡ entry_of id (file_bytes b id)
   entry_read e is = is ∙ ap (entry_of id) places_read
@@ -61,12 +57,12 @@ module _ (b : List ℕ) (p : Places) (id : ℕ) {extra : ℕ → ℕ} (g : GoodW
     state_fine f mark = gate_passes 8 _ _ 0 (rw g.places at f) (gate_passes 9 _ [] 0 (rw g.places at mark) gate_end)
 
 -- 9: the mark that is needed
-module _ (a d : ℕ) where
-  pub mark_other : a % 2 ≢ d → Gate (asks 9 (deleted_bit a ≡ d) ∷ []) 9
-  mark_other ne = gate_fails 9 _ [] (omega arith) ne
+module _ (a d x : ℕ) (is : x ≡ d) where
+  pub mark_other : a % 2 ≢ x → Gate (asks 9 (deleted_bit a ≡ d) ∷ []) 9
+  mark_other ne = gate_fails 9 _ [] (omega arith) (λ e. ne (e ∙ sym is))
 
-  pub mark_fine : a % 2 ≡ d → Gate (asks 9 (deleted_bit a ≡ d) ∷ []) 0
-  mark_fine e = gate_passes 9 _ [] 0 e gate_end
+  pub mark_fine : a % 2 ≡ x → Gate (asks 9 (deleted_bit a ≡ d) ∷ []) 0
+  mark_fine e = gate_passes 9 _ [] 0 (e ∙ is) gate_end
 
 module _ (b : List ℕ) (id : ℕ) where
   -- a file, active or deleted
@@ -94,9 +90,6 @@ module _ (d : ℕ) (b withheld : List ℕ) (id : ℕ) where
   asked_says a P n s g = gate_swap (use_tests b withheld) (state_tests d b id) 7 (a ≡ true) P n (λ e. says_this a P s e) (λ p. this_says a P s p) g
 
 -- ---- a file's weights
-
-pub weight_says : (w : ℕ) (b : List ℕ) (p : Places) (id : ℕ) (t : List ℕ) (a : ℕ) {extra : ℕ → ℕ} → GoodWith extra b p → t ≡ table_at p b id → a ≡ attribute_of t → Says (eqb (a / w % 2) 0) (Unprotected w b id)
-weight_says w b p id t a g is read = let e = ap (λ (x : ℕ). x / w % 2) (attribute_read b p id g t is a read) in says_eq (a / w % 2) 0 (λ z. sym e ∙ z) (λ z. e ∙ z)
 
 module _ (b : List ℕ) (p : Places) (id : ℕ) {extra : ℕ → ℕ} (g : GoodWith extra b p) (parent : Parent (view_of p b) id) (e : Entry) (is : e ≡ entry_of id (table_at p b id)) where
   own : word_of (file_bytes b id) ≡ id

@@ -8,10 +8,8 @@ use native.Mathlib.Omega.{arith}
 use lib.ListN.{length}
 use Rattle.field.specs.Says.{Says}
 use Rattle.field.specs.Parts.{over}
-use Rattle.field.proofs.Tests.{says_map}
 use Rattle.tables.specs.declared.places.Places.{Places}
 use Rattle.tables.specs.Books.{GoodSome}
-use Rattle.tables.specs.Dates.{Date}
 use Rattle.tables.specs.Gates.{Test, asks, Gate}
 use Rattle.tables.specs.Indexes.{table_at, attribute_of}
 use Rattle.tables.specs.Places.{places_of, Layout}
@@ -28,20 +26,11 @@ use Rattle.requests.specs.Body.{BodySized, lent_tests}
 use Rattle.requests.specs.Header.{HeaderAllowed, place_header_tests, header_placed, HeaderPlaced}
 use Rattle.requests.specs.Named.{usable_tests}
 use Rattle.requests.specs.State.{put_state}
-use Rattle.requests.proofs.RequestLaws.{after_refused, after_one}
+use Rattle.requests.proofs.RequestLaws.{after_one}
 use Rattle.requests.proofs.BodyLaws.{lent_says, lent_allowed, lent_sized, lent_good, lent_room, mark_asks}
 use Rattle.requests.proofs.NamedLaws.{usable_active}
 
 -- ---- the arguments
-
-module _ (long : ℕ) (date : List ℕ) where
-  -- too long
-  pub placing_long : 32762 < long → HeaderAllowed long date → ⊥
-  placing_long h a = omega (arith, a.most)
-
-  -- not too long: it is the date that tells
-  pub placing_says : (r : Bool) → long ≤ 32762 → Says r (Date date) → Says r (HeaderAllowed long date)
-  placing_says r h s = says_map r (λ d. record { most = h; date' = d }) (λ a. a.date') s
 
 -- ---- its number
 
@@ -72,8 +61,8 @@ module _ (b withheld body : List ℕ) (id long : ℕ) (date : List ℕ) where
         placing_unusable ne = gate_skip (lent_tests b withheld body P) _ n m lent e (gate_stop (usable_tests 4 b id) (room_test ∷ []) m h ne)
 
         module _ (z : m ≡ 0) (p : Places) (is : p ≡ places_of b) (c : ℕ) (count : c ≡ header_sectors long) (k : Found) (at : k ≡ header_place (view_of p b) c) where
-          here : k ≡ header_place (view_of (places_of b) b) (header_sectors long)
-          here = rw (at, is, count) refl
+          pub placing_here : k ≡ header_place (view_of (places_of b) b) (header_sectors long)
+          placing_here = rw (at, is, count) refl
 
           room_test_lem : (r : ℕ) → Gate (room_test ∷ []) r → Gate (place_header_tests b withheld body id long date) r
           unfolding place_header_tests
@@ -84,12 +73,12 @@ module _ (b withheld body : List ℕ) (id long : ℕ) (date : List ℕ) where
               room_test_lem 12 (gate_fails 12 _ [] (omega arith) (λ room.
               (let good = lent_good b withheld body P n lent e in
               let high = header_room_place (view_of (places_of b) b) (header_sectors long) good.1.lawful.r3 (omega arith) room in
-              omega (arith, ap (λ (q : Places). q.zones) is, ap (λ (q : Found). q.zone.0) here))))
+              omega (arith, ap (λ (q : Places). q.zones) is, ap (λ (q : Found). q.zone.0) placing_here))))
 
           pub placing_roomy : k.zone.0 < p.zones → Gate (place_header_tests b withheld body id long date) 0
           placing_roomy l =
               room_test_lem 0 (gate_passes 12 _ [] 0 (place_room (view_of (places_of b) b) (header_sectors long)
-              (omega (arith, ap (λ (q : Places). q.zones) is, ap (λ (q : Found). q.zone.0) here))) gate_end)
+              (omega (arith, ap (λ (q : Places). q.zones) is, ap (λ (q : Found). q.zone.0) placing_here))) gate_end)
 
 -- ---- what no number says
 
@@ -149,6 +138,10 @@ module _ (b withheld body : List ℕ) (id long : ℕ) (date : List ℕ) (r : ℕ
     pub placing_layout : Layout p (length b)
     placing_layout = rw is placed_good.1.layout
 
+    -- the place that is found, by what the code reads
+    pub placing_at : (n : ℕ) → n ≡ header_sectors long → (k : Found) → k ≡ header_place (view_of (places_of b) b) (header_sectors long) → k ≡ header_place (view_of p b) n
+    placing_at n count k h = rw (is, count) h
+
     module _ (n : ℕ) (count : n ≡ header_sectors long) (k : Found) (at : k ≡ header_place (view_of p b) n) where
       k_is : k ≡ header_place (view_of (places_of b) b) (header_sectors long)
       k_is = rw (at, is, count) refl
@@ -182,9 +175,6 @@ placing_books b p f n date g t bytes a read x y ex ey = rw (ey, ex, read, bytes,
 -- ---- the request
 
 module _ (b withheld body : List ℕ) (id : ℕ) (content date : List ℕ) where
-  pub placing_refused : (n : ℕ) → Gate (place_header_tests b withheld body id (length content) date) n → n ≢ 0 → HeaderPlaced b withheld body id content date n b body
-  placing_refused n g h = record { number = g; books = after_refused n _ b h; body'' = after_refused n _ body h }
-
   pub placing_done : (r : ℕ) (p : Places) (n : ℕ) (k : Found) (s a : ℕ) (x body' b' : List ℕ) → Gate (place_header_tests b withheld body id (length content) date) r → r ≡ 0 → p ≡ places_of b
       → n ≡ header_sectors (length content) → k ≡ header_place (view_of p b) n → s ≡ run_start k → a ≡ body_place s → x ≡ over body a (header_bytes id content)
       → body' ≡ header_marked (view_of p b) id 0 x → b' ≡ header_placed b id n date → HeaderPlaced b withheld body id content date 0 b' body'

@@ -1,9 +1,10 @@
 -- Read: each way out, what its parts ask, and that its promise allows one result.
+use Rattle.std.specs.Prelude.{Option, Result, Ok}
 use mathlib.Core.Path.{◌≡◌, refl, sym, ap, ◌∙◌}
 use mathlib.Core.Logic.{◌≢◌}
 use mathlib.Core.Bool.{Bool, true, false, cond}
 use mathlib.Core.List.{List, [], ◌∷◌, ◌++◌}
-use Prim.Native.Nat.{ℕ, zero, suc, ◌-◌, ◌*◌, ◌/◌, ◌≤◌, ◌<◌}
+use Prim.Native.Nat.{ℕ, ◌-◌, ◌*◌, ◌/◌, ◌≤◌, ◌<◌}
 use native.Mathlib.Omega.{arith}
 use lib.Dec.{leb}
 use lib.ListN.{length}
@@ -17,19 +18,19 @@ use Rattle.tables.specs.Lawful.{LawfulSome}
 use Rattle.tables.specs.Views.{view_of, Parent}
 use Rattle.tables.proofs.GateLaws.{gate_one, gate_fails, gate_passes, gate_end, gate_stop, gate_skip, gate_rest, gate_head, gate_front}
 use Rattle.files.specs.Moves.{fetched, Movable}
-use Rattle.requests.specs.declared.amount.Amount.{Amount}
-use Rattle.requests.specs.declared.answer.Answer.{Answer}
-use Rattle.requests.specs.declared.answer.Answer.TheVariants.{Done, Refused}
-use Rattle.requests.specs.Answers.{number_of, argument_tests}
+use Rattle.requests.specs.Answers.{argument_tests}
 use Rattle.requests.specs.Body.{BodySized, body_test}
 use Rattle.requests.specs.Amounts.{amount_value}
 use Rattle.requests.specs.Read.{read_tests, read_amount, ReadOut}
 use Rattle.requests.specs.Moving.{whole_sectors, end_of, MoveAllowed}
 use Rattle.requests.specs.Named.{usable_tests}
-use Rattle.requests.proofs.RequestLaws.{after_one, answers_one}
+use Rattle.requests.proofs.RequestLaws.{after_one}
 use Rattle.requests.proofs.ArgumentLaws.{argument_says, argument_allowed, argument_good, argument_room}
 use Rattle.requests.proofs.NamedLaws.{usable_parent}
 use Rattle.requests.proofs.MovingLaws.{end_within}
+use Rattle.tables.specs.Refusals.{number_of}
+use Rattle.tables.specs.declared.refusal.Refusal.{Refusal}
+use Rattle.tables.proofs.RefusalLaws.{answers_one}
 
 -- ---- the amount
 
@@ -55,7 +56,7 @@ amount_most b id at long = go (leb (whole_sectors long) (end_of b id - at)) refl
 -- ---- the request
 
 -- 8, 9, 10, then 14
-module _ (b : List ℕ) (id : ℕ) (position : Amount) where
+module _ (b : List ℕ) (id : ℕ) (position : Option ℕ) where
   abbrev pub end_tests : List Test
   end_tests = usable_tests 8 b id ++ (asks 14 (amount_value position < end_of b id) ∷ [])
 
@@ -70,7 +71,7 @@ module _ (b : List ℕ) (id : ℕ) (position : Amount) where
       pub read_fine : x < end → Gate end_tests 0
       read_fine l = gate_skip (usable_tests 8 b id) _ m 0 h z (gate_passes 14 _ [] 0 (omega arith) gate_end)
 
-module _ (b withheld body : List ℕ) (id : ℕ) (position long : Amount) (room : ℕ) where
+module _ (b withheld body : List ℕ) (id : ℕ) (position long : Option ℕ) (room : ℕ) where
   module _ (a : Bool) (n : ℕ) (s : Says a (MoveAllowed position long room)) (g : Gate (argument_tests b withheld (a ≡ true)) n) where
     pub read_stops : n ≢ 0 → Gate (read_tests b withheld body id position long room) n
     unfolding read_tests
@@ -124,25 +125,21 @@ module _ (b withheld body : List ℕ) (id : ℕ) (position long : Amount) (room 
               body' = rest.0 ∙ ap (λ (q : Places). 1048576 * (q.zones - 2)) (sym is);
             }
 
-module _ (b withheld body : List ℕ) (id : ℕ) (position long : Amount) (x : Bool) (out : List ℕ) where
-  pub read_refused : (n : ℕ) → Gate (read_tests b withheld body id position long (length out)) n → n ≢ 0 → ReadOut b withheld body id position long x out (Refused n) out
-  read_refused zero g h = absurd (h refl)
-  read_refused (suc k) g h = record { number = g; answer = refl; output = refl }
-
-  pub read_done : (n at y amount : ℕ) (p : Places) (out' : List ℕ) → Gate (read_tests b withheld body id position long (length out)) n → n ≡ 0 → p ≡ places_of b → at ≡ amount_value position → y ≡ amount_value long
-      → amount ≡ read_amount b id at y → out' ≡ fetched (view_of p b) id (at / 1024) x body out (amount / 1024) → ReadOut b withheld body id position long x out (Done amount) out'
-  read_done n at y amount p out' g e is place long' am o =
+module _ (b withheld body : List ℕ) (id : ℕ) (position long : Option ℕ) (x : Bool) (out : List ℕ) where
+  pub read_done : (at y amount : ℕ) (p : Places) (out' : List ℕ) → Gate (read_tests b withheld body id position long (length out)) 0 → p ≡ places_of b → at ≡ amount_value position → y ≡ amount_value long
+      → amount ≡ read_amount b id at y → out' ≡ fetched (view_of p b) id (at / 1024) x body out (amount / 1024) → ReadOut b withheld body id position long x out (Ok amount) out'
+  read_done at y amount p out' g is place long' am o =
       let am' : amount ≡ read_amount b id (amount_value position) (amount_value long) = rw (← place, ← long') am in
       record {
-        number = rw e at g;
-        answer = ap Done am';
+        number = g;
+        answer = am';
         output = rw (o, is, place, am');
       }
 
 -- ---- one result
 
-pub read_one : (b withheld body : List ℕ) (id : ℕ) (position long : Amount) (x : Bool) (out : List ℕ) (r s : Answer) (o u : List ℕ)
+pub read_one : (b withheld body : List ℕ) (id : ℕ) (position long : Option ℕ) (x : Bool) (out : List ℕ) (r s : Result ℕ Refusal) (o u : List ℕ)
     → ReadOut b withheld body id position long x out r o → ReadOut b withheld body id position long x out s u → (r ≡ s) × (o ≡ u)
 read_one b withheld body id position long x out r s o u h k =
     let e = gate_one _ (number_of r) (number_of s) h.number k.number in
-    (answers_one r s _ _ h.answer k.answer e refl, after_one (number_of r) (number_of s) o u _ out e h.output k.output)
+    (answers_one r s _ _ h.answer k.answer (λ x y p q. p ∙ sym q) e, after_one (number_of r) (number_of s) o u _ out e h.output k.output)

@@ -1,22 +1,17 @@
 -- What every request uses: the books' own numbers, a refusal that alters nothing, and small counts.
-use mathlib.Core.Path.{◌≡◌, refl, sym, ap, ap₂, ◌∙◌}
+use mathlib.Core.Path.{◌≡◌, refl, sym, ap, ◌∙◌}
 use mathlib.Core.Logic.{◌≢◌}
 use mathlib.Core.List.{List}
 use Prim.Native.Nat.{ℕ, zero, suc, ◌≤◌}
 use native.Mathlib.Omega.{arith}
 use lib.ListN.{length}
 use Rattle.tables.specs.declared.places.Places.{Places}
-use Rattle.tables.specs.Gates.{Gate}
-use Rattle.examination.specs.declared.check.Checked.{Checked}
-use Rattle.examination.specs.declared.check.Checked.TheVariants.{Fine, Refused}
-use Rattle.tables.specs.Books.{Good, book_tests, GoodWith}
-use Rattle.examination.specs.Examined.{Examined}
+use Rattle.tables.specs.Books.{GoodWith}
 use Rattle.tables.specs.Rules.R9.{free_one, active_one, deleted_one, system_one, directory_one}
 use Rattle.tables.specs.Sector1.{active_of, deleted_of, free_of, system_of, directory_of}
 use Rattle.tables.specs.Views.{View, view_of}
 use Rattle.tables.proofs.Sector1CountLaws.{tally_few, free_le, active_le, deleted_le, system_le, directory_le}
-use Rattle.requests.specs.declared.answer.Answer.{Answer}
-use Rattle.requests.specs.Answers.{after, number_of, answer_of}
+use Rattle.requests.specs.Answers.{after}
 
 -- books that are good have their two first sectors
 pub good_room : (b : List ℕ) (p : Places) {extra : ℕ → ℕ} → GoodWith extra b p → 2048 ≤ length b
@@ -35,17 +30,6 @@ done_keeps (suc k) new old b' p e h g = rw e g
 -- one number, one content
 pub after_one : (r s : ℕ) (x y new old : List ℕ) → r ≡ s → x ≡ after r new old → y ≡ after s new old → x ≡ y
 after_one r s x y new old e h k = h ∙ ap (λ (n : ℕ). after n new old) e ∙ sym k
-
--- one number and one value, one answer
-pub answers_one : (r s : Answer) (u v : ℕ) → r ≡ answer_of (number_of r) u → s ≡ answer_of (number_of s) v → number_of r ≡ number_of s → u ≡ v → r ≡ s
-answers_one r s u v h k e f = h ∙ ap₂ (λ (n m : ℕ). answer_of n m) e f ∙ sym k
-
--- what an examination found, arm by arm
-pub found_good : (b withheld : List ℕ) (found : Checked) (p : Places) → Examined b withheld found → found ≡ Fine p → Good b withheld p
-found_good b withheld found p h e = rw e at h
-
-pub found_bad : (b withheld : List ℕ) (found : Checked) (n : ℕ) → Examined b withheld found → found ≡ Refused n → Gate (book_tests b withheld) n × (n ≢ 0)
-found_bad b withheld found n h e = rw e at h
 
 -- ---- R9's counts are no more than the tables
 

@@ -1,6 +1,7 @@
 -- Search: which files match, the list made index by index, each way out, and that its promise allows one result.
+use Rattle.std.specs.Prelude.{Result, Ok, Err}
 use mathlib.Core.Path.{◌≡◌, refl, sym, ap, ap₂, ◌∙◌}
-use mathlib.Core.Logic.{◌⊎◌, inl, inr, ⊎_elim, ◌≢◌, ◌↔◌}
+use mathlib.Core.Logic.{◌⊎◌, inl, inr, ⊎_elim, ◌↔◌}
 use mathlib.Core.Bool.{Bool, true, false, not, cond}
 use mathlib.Core.List.{List, [], ◌∷◌, ◌++◌, append-nil}
 use Prim.Native.Nat.{ℕ, zero, suc, ◌+◌, ◌-◌, ◌≤◌, ◌<◌}
@@ -8,12 +9,10 @@ use native.Mathlib.Decide.{dec_lt}
 use native.Mathlib.Omega.{arith}
 use native.Mathlib.Numerals.{add-one}
 use borrow.Author.Tests.{eq-eqb, ne_eqb, not-true, not-false}
-use lib.Dec.{eqb}
 use lib.ListN.{length, get_or, take, drop, set, length-append, length-set, get_or-append}
 use lib.Seq.{length-take-le, take-nil, take_all, take-append-le, drop-cons, append_snoc, set_at, set_out, get_or_at}
 use Rattle.field.specs.Says.{Says}
 use Rattle.field.specs.Parts.{over}
-use Rattle.field.proofs.Tests.{says_eq}
 use Rattle.field.proofs.PartLaws.{length_over}
 use Rattle.patterns.specs.Pattern.{matches}
 use Rattle.tables.specs.declared.places.Places.{Places}
@@ -23,23 +22,18 @@ use Rattle.tables.specs.Names.{Text}
 use Rattle.tables.specs.Places.{places_of, Layout}
 use Rattle.tables.specs.Views.{View, view_of}
 use Rattle.tables.proofs.GateLaws.{gate_one}
-use Rattle.requests.specs.declared.answer.Answer.{Answer}
-use Rattle.requests.specs.declared.answer.Answer.TheVariants.{Done, Refused}
-use Rattle.requests.specs.Answers.{number_of, argument_tests}
+use Rattle.requests.specs.Answers.{argument_tests}
 use Rattle.requests.specs.Search.{is_match, found, PatternAllowed, filled_with, Searched, before_null}
 use Rattle.requests.specs.Active.{is_active, passing}
-use Rattle.requests.proofs.RequestLaws.{after_one, answers_one}
+use Rattle.requests.proofs.RequestLaws.{after_one, after_refused}
 use Rattle.requests.proofs.ActiveLaws.{passing_next}
 use Rattle.requests.proofs.ArgumentLaws.{argument_says, argued_good}
+use Rattle.tables.specs.Refusals.{number_of}
+use Rattle.tables.specs.declared.refusal.Refusal.{Refusal}
+use Rattle.tables.specs.Refusals.{number}
+use Rattle.tables.proofs.RefusalLaws.{refused, answers_one}
 
 -- ---- the pattern, and a name's text
-
-pub pattern_says : (f : List ℕ) (n : ℕ) → 1 ≤ length f → length f ≤ 24 → Text f n → Says (eqb n (length f)) (PatternAllowed f)
-pattern_says f n some most t =
-    says_eq n (length f) (λ e. record { some = some; most = most; text = λ k l. t.text k (omega arith) }) (λ a. elim (dec_lt n (length f)) [
-      | yes l ↦ absurd (a.text n l (t.null l))
-      | no g ↦ omega (arith, t.within)
-    ])
 
 pub text_is : (f : List ℕ) (n : ℕ) → Text f n → take n f ≡ before_null f
 unfolding before_null
@@ -51,9 +45,6 @@ text_is (c ∷ s) (suc n) t =
       text = λ k l. t.text (suc k) (omega arith);
       null = λ l. t.null (omega arith);
     })))
-
-pub text_fits : (f : List ℕ) (n : ℕ) → Text f n → n ≡ length (take n f)
-text_fits f n t = sym (length-take-le n f t.within)
 
 pub text_says : (t f pattern : List ℕ) (n : ℕ) (q : Bool) → f ≡ name_of t → Text f n → q ≡ matches pattern (take n f) → q ≡ matches pattern (before_null (name_of t))
 text_says t f pattern n q e h k = k ∙ ap (matches pattern) (text_is f n h ∙ ap before_null e)
@@ -124,20 +115,6 @@ module _ (test : ℕ → Bool) (l : List ℕ) where
           long = rw f h.long;
         }
 
-  pub sought_all : (i n m : ℕ) (ids : List ℕ) → Sought test l i n ids → i ≤ m + 1 → m < i → (n ≡ length (passing test m)) × (ids ≡ filled_with l (passing test m))
-  sought_all i n m ids h le gt = let e : i - 1 ≡ m = omega arith in (rw e at h.count, rw e at h.list)
-
--- what an index adds, on each way out of the code
-module _ (t m : Bool) (e : t ≡ m) (ids : List ℕ) (n i : ℕ) where
-  pub match_none : not t ≡ true → (n ≡ cond m (n + 1) n) × (ids ≡ cond m (set ids n i) ids)
-  match_none h = rw (← e, not-true t h) (refl, refl)
-
-  pub match_beyond : not t ≡ false → length ids ≤ n → (n + 1 ≡ cond m (n + 1) n) × (ids ≡ cond m (set ids n i) ids)
-  match_beyond h l = rw (← e, not-false t h) (refl, sym (set_out ids n i l))
-
-  pub match_here : not t ≡ false → (n + 1 ≡ cond m (n + 1) n) × (set ids n i ≡ cond m (set ids n i) ids)
-  match_here h = rw (← e, not-false t h) (refl, refl)
-
 -- ---- for readers: what the list of the numbers that pass is
 
 -- i stands in the list
@@ -190,22 +167,21 @@ pub argument_layout : (b withheld : List ℕ) (p : Places) (P : Type 0) (n : ℕ
 argument_layout b withheld p P n g e h = (argued_good b withheld P n p g e h).1.layout
 
 module _ (b withheld pattern ids : List ℕ) (a : Bool) (s : Says a (PatternAllowed pattern)) where
-  pub search_refused : (n : ℕ) → Gate (argument_tests b withheld (a ≡ true)) n → n ≢ 0 → Searched b withheld pattern ids (Refused n) ids
-  search_refused zero g h = absurd (h refl)
-  search_refused (suc k) g h = record { number = argument_says b withheld a (PatternAllowed pattern) (suc k) s g; answer = refl; list = refl }
+  pub search_refused : (why : Refusal) → Gate (argument_tests b withheld (a ≡ true)) (number why) → Searched b withheld pattern ids (Err why) ids
+  search_refused why g = record { number = argument_says b withheld a (PatternAllowed pattern) (number why) s g; answer = tt; list = after_refused (number why) _ ids (refused why) }
 
-  pub search_done : (n m : ℕ) (p : Places) (ids' : List ℕ) → Gate (argument_tests b withheld (a ≡ true)) n → n ≡ 0 → p ≡ places_of b → m ≡ length (passing (is_match (view_of p b) pattern) p.indexes)
-      → ids' ≡ filled_with ids (passing (is_match (view_of p b) pattern) p.indexes) → Searched b withheld pattern ids (Done m) ids'
+  pub search_done : (m : ℕ) (p : Places) (ids' : List ℕ) → Gate (argument_tests b withheld (a ≡ true)) 0 → p ≡ places_of b → m ≡ length (passing (is_match (view_of p b) pattern) p.indexes)
+      → ids' ≡ filled_with ids (passing (is_match (view_of p b) pattern) p.indexes) → Searched b withheld pattern ids (Ok m) ids'
   unfolding found
-  search_done n m p ids' g e h c f = record {
-    number = rw e at (argument_says b withheld a (PatternAllowed pattern) n s g);
-    answer = ap Done (rw h at c);
+  search_done m p ids' g h c f = record {
+    number = argument_says b withheld a (PatternAllowed pattern) 0 s g;
+    answer = rw h at c;
     list = rw h at f;
   }
 
 -- ---- one result
 
-pub searched_one : (b withheld pattern ids : List ℕ) (r s : Answer) (x y : List ℕ) → Searched b withheld pattern ids r x → Searched b withheld pattern ids s y → (r ≡ s) × (x ≡ y)
+pub searched_one : (b withheld pattern ids : List ℕ) (r s : Result ℕ Refusal) (x y : List ℕ) → Searched b withheld pattern ids r x → Searched b withheld pattern ids s y → (r ≡ s) × (x ≡ y)
 searched_one b withheld pattern ids r s x y h k =
     let e = gate_one _ (number_of r) (number_of s) h.number k.number in
-    (answers_one r s _ _ h.answer k.answer e refl, after_one (number_of r) (number_of s) x y _ ids e h.list k.list)
+    (answers_one r s _ _ h.answer k.answer (λ x y p q. p ∙ sym q) e, after_one (number_of r) (number_of s) x y _ ids e h.list k.list)

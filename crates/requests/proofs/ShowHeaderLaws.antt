@@ -1,10 +1,10 @@
 -- Show header: each way out, that the header lies in the body, and that each promise allows one result.
-use mathlib.Core.Path.{◌≡◌, refl, sym, ap, ap₂, ◌∙◌}
+use mathlib.Core.Path.{◌≡◌, refl, sym, ap, ◌∙◌}
 use mathlib.Core.Logic.{◌≢◌}
 use mathlib.Core.List.{List, [], ◌∷◌, ◌++◌}
-use Prim.Native.Nat.{ℕ, zero, suc, ◌+◌, ◌-◌, ◌*◌, ◌≤◌}
+use Prim.Native.Nat.{ℕ, ◌+◌, ◌*◌, ◌≤◌}
 use native.Mathlib.Omega.{arith}
-use lib.ListN.{length, take, drop}
+use lib.ListN.{length}
 use Rattle.tables.specs.declared.index.Pointer.{Pointer}
 use Rattle.tables.specs.declared.places.Places.{Places}
 use Rattle.tables.specs.Books.{GoodSome}
@@ -24,7 +24,7 @@ use Rattle.requests.proofs.RequestLaws.{good_room}
 use Rattle.requests.proofs.JudgedLaws.{use_good, used_good}
 use Rattle.requests.proofs.NamedLaws.{usable_active, usable_parent}
 use Rattle.requests.proofs.BodyLaws.{header_part_inside}
-use Rattle.requests.proofs.LocateLaws.{part_inside, part_bytes}
+use Rattle.requests.proofs.LocateLaws.{part_inside}
 
 -- what the code reads is the file's header pointer
 module _ (b : List ℕ) (id : ℕ) (p : Places) (is : p ≡ places_of b) (t : List ℕ) (bytes : t ≡ table_at p b id) (q : Pointer) (read : q ≡ pointer_at t 58) where
@@ -58,10 +58,6 @@ module _ (b withheld : List ℕ) (id : ℕ) where
 
 -- ---- the request
 
-pub header_refused : (b withheld body : List ℕ) (id n : ℕ) → Gate (show_header_tests b withheld body id) n → n ≢ 0 → HeaderShownAt b withheld body id (record { at = 0; len = 0 })
-header_refused b withheld body id zero h ne = absurd (ne refl)
-header_refused b withheld body id (suc n) h ne = record { number = suc n; gate = h; part = refl }
-
 module _ (b withheld body : List ℕ) (id : ℕ) where
   module _ (h : Gate (show_header_tests b withheld body id) 0) where
     header_rest : BodySized b body × Gate (header_tests b withheld id) 0
@@ -94,24 +90,10 @@ module _ (b withheld body : List ℕ) (id : ℕ) where
         pub header_low : 1024 ≤ q.start.0
         header_low = rw (start_is b id p is t bytes q read) (header_inside (rw e at h)).0
 
-        pub header_placed_lem : (a : ℕ) → a ≡ body_place q.start.0 → HeaderShownAt b withheld body id (record { at = a; len = 1024 * q.count })
-        header_placed_lem a place = record {
-          number = 0;
-          gate = rw e at h;
-          part = ap₂ (λ (x y : ℕ). record { at = x; len = 1024 * y }) (place ∙ ap body_place (start_is b id p is t bytes q read)) (count_is b id p is t bytes q read);
-        }
-
   module _ (r : Part) (h : HeaderShownAt b withheld body id r) where
     pub header_shown_inside : r.at + r.len ≤ length body
     header_shown_inside =
         part_inside body (header_start (file_bytes b id)) (header_count (file_bytes b id)) h.number r h.part (λ z. (header_inside (rw z at h.gate)).1)
-
-    pub header_shown_part : HeaderShown b withheld body id (take (r.at + r.len - r.at) (drop r.at body))
-    header_shown_part = record {
-      number = h.number;
-      gate = h.gate;
-      bytes = part_bytes body (header_start (file_bytes b id)) (header_count (file_bytes b id)) h.number r h.part;
-    }
 
 -- ---- one result
 

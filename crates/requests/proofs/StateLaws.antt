@@ -9,7 +9,6 @@ use native.Mathlib.Omega.{arith}
 use lib.ListN.{length}
 use Rattle.field.specs.Says.{Says}
 use Rattle.field.proofs.Sums.{sum_part}
-use Rattle.field.proofs.Tests.{says_map}
 use Rattle.tables.specs.declared.places.Places.{Places}
 use Rattle.tables.specs.Dates.{Date}
 use Rattle.tables.specs.Indexes.{table_at, word_of, attribute_of, directory_bit, system_bit, deleted_bit, minus}
@@ -26,7 +25,7 @@ use Rattle.requests.specs.Answers.{argument_tests}
 use Rattle.requests.specs.Body.{BodySized, lent_tests}
 use Rattle.requests.specs.Named.{state_tests, asked_tests, usable_tests}
 use Rattle.requests.specs.State.{put_state, put_counts, removed, recovered, protection_of, protected, remove_tests, Removed, recover_tests, Recovered, ProtectAllowed, protect_tests, Protected}
-use Rattle.requests.proofs.RequestLaws.{after_refused, after_one, good_few}
+use Rattle.requests.proofs.RequestLaws.{after_one, good_few}
 use Rattle.requests.proofs.ArgumentLaws.{argument_allowed, argument_good, argument_room}
 use Rattle.requests.proofs.BodyLaws.{lent_says, lent_allowed, lent_sized, lent_good, lent_room, mark_asks}
 use Rattle.requests.proofs.NamedLaws.{asked_says, state_file, usable_active}
@@ -91,15 +90,6 @@ module _ (b : List ℕ) (p : Places) (f : ℕ) {extra : ℕ → ℕ} (g : GoodWi
     pub restore_directory : (n : ℕ) → n ≡ directory_of b → n + a / 32 % 2 < 65536
     restore_directory n e = omega (arith, (good_few b p g).directory)
 
-    pub protect_fits : a < 128
-    protect_fits = rw here (weights_few b p g f h)
-
-    pub remove_fits : a + 1 < 65536
-    remove_fits = omega (arith, protect_fits)
-
-    pub restore_fits : deleted_bit (attribute_of (table_at p b f)) ≡ 1 → 1 ≤ a
-    restore_fits is = omega (arith, here)
-
     pub remove_is : (active deleted system directory : ℕ) (x y date : List ℕ) → (active ≡ active_of b) → (deleted ≡ deleted_of b) → (system ≡ system_of b) → (directory ≡ directory_of b)
         → x ≡ put_counts b (active - 1) (deleted + 1) (system - a / 64 % 2) (directory - a / 32 % 2) → y ≡ put_state p x f (a + 1) date → y ≡ removed p b f date
     unfolding removed
@@ -160,9 +150,6 @@ module _ (b withheld body : List ℕ) (id : ℕ) (date : List ℕ) where
     pub remove_few : (1 ≤ id) × (id ≤ 4096)
     remove_few = let m = remove_marks (places_of b) refl in (m.1.0.0, omega (arith, m.1.0.1, m.0.few))
 
-  pub remove_refused : (n : ℕ) → Gate (remove_tests b withheld body id date) n → n ≢ 0 → Removed b withheld body id date n b body
-  remove_refused n g h = record { number = g; books = after_refused n _ b h; body'' = after_refused n _ body h }
-
   pub remove_done : (n : ℕ) (p : Places) (w : ℕ) (b' body' : List ℕ) → Gate (remove_tests b withheld body id date) n → n ≡ 0 → p ≡ places_of b → w ≡ minus id
       → body' ≡ header_marked (view_of p b) id w body → b' ≡ removed p b id date → Removed b withheld body id date 0 b' body'
   remove_done n p w b' body' g e is own k h = record { number = rw e at g; books = h ∙ ap (λ (q : Places). removed q b id date) is; body'' = rw (k, is, own) }
@@ -188,24 +175,7 @@ module _ (b withheld body : List ℕ) (id : ℕ) (date : List ℕ) where
     pub recover_marks : (p : Places) → p ≡ places_of b → Layout p (length b) × (((1 ≤ id) × (id ≤ p.indexes)) × HeaderInBody (table_at p b id) (length body))
     recover_marks p is = let a = recover_asks p is in mark_asks b body p id a.0.1 a.1.0 recover_sized
 
-  pub recover_refused : (n : ℕ) → Gate (recover_tests b withheld body id date) n → n ≢ 0 → Recovered b withheld body id date n b body
-  recover_refused n g h = record { number = g; books = after_refused n _ b h; body'' = after_refused n _ body h }
-
-  pub recover_done : (n : ℕ) (p : Places) (b' body' : List ℕ) → Gate (recover_tests b withheld body id date) n → n ≡ 0 → p ≡ places_of b
-      → body' ≡ header_marked (view_of p b) id id body → b' ≡ recovered p b id date → Recovered b withheld body id date 0 b' body'
-  recover_done n p b' body' g e is k h = record { number = rw e at g; books = h ∙ ap (λ (q : Places). recovered q b id date) is; body'' = rw (k, is) }
-
 -- ---- set protection
-
-module _ (w : ℕ) (date : List ℕ) where
-  pub protect_odd : w % 4 ≢ 0 → ProtectAllowed w date → ⊥
-  protect_odd ne a = ne a.fours
-
-  pub protect_beyond : 12 < w → ProtectAllowed w date → ⊥
-  protect_beyond h a = omega (arith, a.most)
-
-  pub protect_says : (r : Bool) → w % 4 ≡ 0 → w ≤ 12 → Says r (Date date) → Says r (ProtectAllowed w date)
-  protect_says r e h s = says_map r (λ d. record { fours = e; most = h; date' = d }) (λ a. a.date') s
 
 module _ (b withheld : List ℕ) (id w : ℕ) (date : List ℕ) where
   pub protect_asked : (a : Bool) (n : ℕ) → Says a (ProtectAllowed w date) → Gate (asked_tests 0 b withheld (a ≡ true) id) n → Gate (protect_tests b withheld id w date) n
@@ -228,12 +198,6 @@ module _ (b withheld : List ℕ) (id w : ℕ) (date : List ℕ) where
     protect_asks p is =
         let f = state_file b id 0 (gate_rest (argument_tests b withheld (ProtectAllowed w date)) _ (rw e at g)) in
         rw is (argument_good b withheld (ProtectAllowed w date) 0 protect_front refl, (f.0, (protect_valid.most, protect_valid.date'.long)))
-
-  pub protect_refused : (n : ℕ) → Gate (protect_tests b withheld id w date) n → n ≢ 0 → Protected b withheld id w date n b
-  protect_refused n g h = record { number = g; books = after_refused n _ b h }
-
-  pub protect_done : (n : ℕ) (p : Places) (b' : List ℕ) → Gate (protect_tests b withheld id w date) n → n ≡ 0 → p ≡ places_of b → b' ≡ protected p b id w date → Protected b withheld id w date 0 b'
-  protect_done n p b' g e is h = record { number = rw e at g; books = h ∙ ap (λ (q : Places). protected q b id w date) is }
 
 -- ---- one result
 

@@ -1,5 +1,7 @@
 -- "A zone with a withheld block .. keeps its type" (W7) through every request that changes the books: so does each zone with a sector that is
 -- set besides.
+use Rattle.tables.specs.declared.kinds.Index.{Index}
+use Rattle.std.specs.Prelude.{Option, Result}
 use mathlib.Core.Path.{◌≡◌, refl}
 use mathlib.Core.Logic.{inl}
 use mathlib.Core.Bool.{Bool}
@@ -12,7 +14,6 @@ use borrow.Author.Tests.{lt-ltb, le-ltb}
 use Rattle.field.proofs.Frames.{kept_wider}
 use Rattle.field.proofs.NumberLaws.{u32_kept}
 use Rattle.tables.specs.declared.places.Places.{Places}
-use Rattle.tables.specs.declared.counts.Chosen.{Chosen}
 use Rattle.tables.specs.Books.{GoodWith}
 use Rattle.tables.specs.Dates.{Date}
 use Rattle.tables.specs.Gates.{Gate}
@@ -35,12 +36,9 @@ use Rattle.files.specs.Headers.{headed}
 use Rattle.files.specs.Release.{released}
 use Rattle.files.proofs.HeadedLawful.{headed_types}
 use Rattle.files.proofs.ReleasedLawful.{released_types}
-use Rattle.requests.specs.declared.amount.Amount.{Amount}
-use Rattle.requests.specs.declared.answer.Answer.{Answer}
-use Rattle.requests.specs.declared.create.Created.{Created}
 use Rattle.requests.specs.Amounts.{amount_value}
-use Rattle.requests.specs.Answers.{after, argument_tests, number_of as answer_number}
-use Rattle.requests.specs.Create.{number_of, Creates, CreatedFixed, CreatedVariable}
+use Rattle.requests.specs.Answers.{after, argument_tests}
+use Rattle.requests.specs.Create.{Creates, CreatedFixed, CreatedVariable}
 use Rattle.requests.specs.Delete.{Deleted}
 use Rattle.requests.specs.Grow.{grow_counts, lack_tests, grow_tests, grown_to, Grew}
 use Rattle.requests.specs.Header.{header_placed, HeaderPlaced}
@@ -59,6 +57,8 @@ use Rattle.requests.proofs.StampLaws.{removed_restates, recovered_restates, prot
 use Rattle.requests.proofs.StateLaws.{recover_asks}
 use Rattle.requests.proofs.WriteKeeps.{some_written, none_written, settles}
 use Rattle.requests.proofs.WriteLaws.{write_parent, write_lack, write_allows}
+use Rattle.tables.specs.Refusals.{number_of}
+use Rattle.tables.specs.declared.refusal.Refusal.{Refusal}
 
 -- a refusal leaves the books as they were
 done_types : (r : ℕ) (new old b' : List ℕ) (p : Places) {extra : ℕ → ℕ} → b' ≡ after r new old → (r ≡ 0 → KeepsTypes extra (view_of p old) (view_of p new)) → KeepsTypes extra (view_of p old) (view_of p b')
@@ -103,17 +103,17 @@ module _ (b withheld : List ℕ) {extra : ℕ → ℕ} (g : GoodWith extra b (pl
 
   -- ---- a new file
 
-  creates_types : (P : Type 0) (counts : List ℕ) (n : New) (r : Created) (b' : List ℕ) → (P → NewLawful n counts × (length counts ≡ 6)) → Creates (argument_tests b withheld P) b counts n r b'
+  creates_types : (P : Type 0) (counts : List ℕ) (n : New) (r : Result Index Refusal) (b' : List ℕ) → (P → NewLawful n counts × (length counts ≡ 6)) → Creates (argument_tests b withheld P) b counts n r b'
       → KeepsTypes extra v (view_of p b')
   creates_types P counts n r b' new h = done_types (number_of r) (created p b n counts) b b' p h.books (λ z.
       (let a = creates_asks b withheld P counts n r b' g new h z in
       created_types p b n counts a.1 a.0 (ready_start p b counts n a.1 a.0.name.most a.0.date.long)))
 
-  pub fixed_types : (name : List ℕ) (size : Amount) (types : Chosen) (kind : ℕ) (date : List ℕ) (r : Created) (b' : List ℕ) → CreatedFixed b withheld name size types kind date r b'
+  pub fixed_types : (name : List ℕ) (size : Option ℕ) (types : Option ℕ) (kind : ℕ) (date : List ℕ) (r : Result Index Refusal) (b' : List ℕ) → CreatedFixed b withheld name size types kind date r b'
       → KeepsTypes extra v (view_of p b')
   fixed_types name size types kind date r b' = creates_types _ _ _ r b' (fixed_lawful name size types kind date)
 
-  pub variable_types : (name : List ℕ) (cell : Amount) (kind : ℕ) (date : List ℕ) (r : Created) (b' : List ℕ) → CreatedVariable b withheld name cell kind date r b' → KeepsTypes extra v (view_of p b')
+  pub variable_types : (name : List ℕ) (cell : Option ℕ) (kind : ℕ) (date : List ℕ) (r : Result Index Refusal) (b' : List ℕ) → CreatedVariable b withheld name cell kind date r b' → KeepsTypes extra v (view_of p b')
   variable_types name cell kind date r b' = creates_types _ _ _ r b' (variable_lawful name cell kind date)
 
   -- ---- a file that grows
@@ -125,7 +125,7 @@ module _ (b withheld : List ℕ) {extra : ℕ → ℕ} (g : GoodWith extra b (pl
     | no nl ↦ rw (le-ltb (length_of (file_bytes b id)) long (omega arith)) (λ s l lo some. refl)
   ]
 
-  pub grew_types : (id : ℕ) (long : Amount) (date : List ℕ) (r : ℕ) (b' : List ℕ) → Grew b withheld id long date r b' → KeepsTypes extra v (view_of p b')
+  pub grew_types : (id : ℕ) (long : Option ℕ) (date : List ℕ) (r : ℕ) (b' : List ℕ) → Grew b withheld id long date r b' → KeepsTypes extra v (view_of p b')
   grew_types id long date r b' h = done_types r (grown_to b id (amount_value long) date) b b' p h.books (λ z.
       (let q : Gate (grow_tests b withheld id long date) 0 = rw z at h.number in
       longer_types id (amount_value long) date (grow_parent b withheld id long date 0 q refl) (grow_room b withheld id long date 0 q refl (amount_value long) refl)
@@ -140,11 +140,11 @@ module _ (b withheld : List ℕ) {extra : ℕ → ℕ} (g : GoodWith extra b (pl
         (keeps_same extra (view_of p b₁) (view_of p c) (settles b id at n date g parent room valid).restated.ground.zone)))
   ]
 
-  pub wrote_types : (body : List ℕ) (id : ℕ) (position long : Amount) (x : Bool) (input date : List ℕ) (r : Answer) (b' body' : List ℕ) → Wrote b withheld body id position long x input date r b' body'
+  pub wrote_types : (body : List ℕ) (id : ℕ) (position long : Option ℕ) (x : Bool) (input date : List ℕ) (r : Result ℕ Refusal) (b' body' : List ℕ) → Wrote b withheld body id position long x input date r b' body'
       → KeepsTypes extra v (view_of p b')
   wrote_types body id position long x input date r b' body' h =
       let n = whole_sectors (amount_value long) in
-      done_types (answer_number r) (written_books b id (amount_value position) n date) b b' p h.books (λ z.
+      done_types (number_of r) (written_books b id (amount_value position) n date) b b' p h.books (λ z.
       (let q : Gate (write_tests b withheld body id position long (length input) date) 0 = rw z at h.number in
       written_types id (amount_value position) n date (write_parent b withheld body id position long (length input) date 0 q refl)
       (write_lack b withheld body id position long (length input) date 0 q refl) (write_allows b withheld body id position long (length input) date 0 q refl).date'))

@@ -1,4 +1,5 @@
 -- Write keeps the books good, and the body as long as it was: the rules hold of the books afterwards, at the same places.
+use Rattle.std.specs.Prelude.{Option, Result}
 use mathlib.Core.Path.{◌≡◌, refl, sym, ap, ap₂, ◌∙◌}
 use mathlib.Core.Logic.{◌≢◌}
 use mathlib.Core.Bool.{Bool, true, false, cond}
@@ -21,9 +22,7 @@ use Rattle.tables.specs.Sector1.{flag_of}
 use Rattle.tables.specs.Views.{view_of, Parent}
 use Rattle.files.specs.Moves.{filled, Movable}
 use Rattle.files.proofs.MoveLaws.{length_filled}
-use Rattle.requests.specs.declared.amount.Amount.{Amount}
-use Rattle.requests.specs.declared.answer.Answer.{Answer}
-use Rattle.requests.specs.Answers.{after, number_of}
+use Rattle.requests.specs.Answers.{after}
 use Rattle.requests.specs.Amounts.{amount_value}
 use Rattle.requests.specs.Grow.{lack_tests, grown_to}
 use Rattle.requests.specs.Named.{file_bytes}
@@ -35,6 +34,8 @@ use Rattle.requests.proofs.MovingLaws.{file_here}
 use Rattle.requests.proofs.WriteLaws.{asked_variable, Grown, grown_is, write_allows, write_good, write_parent, write_sized, write_within, write_lack}
 use Rattle.requests.proofs.WriteRoom.{room_few}
 use Rattle.requests.proofs.SettleLaws.{Settled, settle_keeps}
+use Rattle.tables.specs.Refusals.{number_of}
+use Rattle.tables.specs.declared.refusal.Refusal.{Refusal}
 
 -- ---- the books written
 
@@ -97,7 +98,7 @@ module _ (b : List ℕ) (id at n : ℕ) (date : List ℕ) {extra : ℕ → ℕ} 
 
 -- ---- the request
 
-module _ (b withheld body : List ℕ) (id : ℕ) (position long : Amount) (room : ℕ) (date : List ℕ) (m : ℕ) (h : Gate (write_tests b withheld body id position long room date) m) (e : m ≡ 0) where
+module _ (b withheld body : List ℕ) (id : ℕ) (position long : Option ℕ) (room : ℕ) (date : List ℕ) (m : ℕ) (h : Gate (write_tests b withheld body id position long room date) m) (e : m ≡ 0) where
   abbrev at : ℕ
   at = amount_value position
 
@@ -156,7 +157,7 @@ module _ (b withheld body : List ℕ) (id : ℕ) (position long : Amount) (room 
 
 -- ---- the promise
 
-module _ (b withheld body : List ℕ) (id : ℕ) (position long : Amount) (x : Bool) (input date : List ℕ) where
+module _ (b withheld body : List ℕ) (id : ℕ) (position long : Option ℕ) (x : Bool) (input date : List ℕ) where
   abbrev at' : ℕ
   at' = amount_value position
 
@@ -175,7 +176,7 @@ module _ (b withheld body : List ℕ) (id : ℕ) (position long : Amount) (x : B
       length_filled (places_of c) c asks.0 asks.1.0.1 id (at' / 1024) (n' / 1024) x input body asks.1.1
 
   -- "the rules still hold" (demand 3): after write; and the body is as long as it was
-  pub wrote_keeps : (r : Answer) (b' body' : List ℕ) (p : Places) {extra : ℕ → ℕ} → GoodWith extra b p → Wrote b withheld body id position long x input date r b' body' → GoodWith extra b' p × (length body' ≡ length body)
+  pub wrote_keeps : (r : Result ℕ Refusal) (b' body' : List ℕ) (p : Places) {extra : ℕ → ℕ} → GoodWith extra b p → Wrote b withheld body id position long x input date r b' body' → GoodWith extra b' p × (length body' ≡ length body)
   wrote_keeps r b' body' p {extra = extra} g h = go (number_of r) h.number h.books h.body''
     where
       go : (m : ℕ) → Gate (write_tests b withheld body id position long (length input) date) m → b' ≡ after m (written_books b id at' n' date) b

@@ -1,19 +1,18 @@
 -- Write: each way out, what its parts ask, the books once the file has grown, and that the promise allows one result.
+use Rattle.std.specs.Prelude.{Option, Result, Ok}
 use mathlib.Core.Path.{◌≡◌, refl, sym, ap, ap₂, ◌∙◌}
 use mathlib.Core.Logic.{◌≢◌}
 use mathlib.Core.Bool.{Bool, not, true, false}
 use mathlib.Core.List.{List, ◌∷◌}
-use Prim.Native.Nat.{ℕ, zero, suc, ◌+◌, ◌-◌, ◌*◌, ◌/◌, ◌%◌, ◌≤◌, ◌<◌}
-use native.Mathlib.Decide.{ℕ_discrete, dec_lt}
+use Prim.Native.Nat.{ℕ, ◌+◌, ◌-◌, ◌*◌, ◌/◌, ◌%◌, ◌≤◌, ◌<◌}
+use native.Mathlib.Decide.{dec_lt}
 use native.Mathlib.Omega.{arith}
-use lib.Dec.{leb}
 use lib.ListN.{length}
 use borrow.Author.Tests.{eq-eqb, ne_eqb, lt-ltb, le-ltb}
 use Rattle.field.specs.Says.{Says}
-use Rattle.field.proofs.Tests.{passed, refused, says_map}
+use Rattle.field.proofs.Tests.{passed, refused}
 use Rattle.tables.specs.declared.places.Places.{Places}
 use Rattle.tables.specs.Books.{GoodSome, GoodWith}
-use Rattle.tables.specs.Dates.{Date}
 use Rattle.tables.specs.Gates.{Gate}
 use Rattle.tables.specs.Indexes.{table_at, length_of, attribute_of, variable_bit}
 use Rattle.tables.specs.Places.{places_of, Layout}
@@ -26,38 +25,27 @@ use Rattle.allocation.proofs.FileLaws.{ready_grow}
 use Rattle.allocation.proofs.HeldLawful.{quiet_places}
 use Rattle.allocation.proofs.GrownLawful.{length_resized, grown_lengthened, grown_calm, grown_parent, grown_long, grown_attribute}
 use Rattle.files.specs.Moves.{filled}
-use Rattle.requests.specs.declared.amount.Amount.{Amount}
-use Rattle.requests.specs.declared.answer.Answer.{Answer}
-use Rattle.requests.specs.declared.answer.Answer.TheVariants.{Done, Refused}
-use Rattle.requests.specs.Answers.{number_of, argument_tests}
+use Rattle.requests.specs.Answers.{argument_tests}
 use Rattle.requests.specs.Body.{BodySized, body_test}
 use Rattle.requests.specs.Amounts.{amount_value}
 use Rattle.requests.specs.Grow.{grow_counts, lack_tests, grown_to}
 use Rattle.requests.specs.Named.{file_bytes, VariableSize, usable_tests}
-use Rattle.requests.specs.Moving.{whole_sectors, end_of, MoveAllowed}
+use Rattle.requests.specs.Moving.{whole_sectors, MoveAllowed}
 use Rattle.requests.specs.State.{put_state}
 use Rattle.requests.specs.Write.{WriteAllowed, Within, asked_length, move_tests, write_tests, settle, written_books, written_body, Wrote, Writes}
-use Rattle.requests.proofs.RequestLaws.{after_one, answers_one}
-use Rattle.requests.proofs.ArgumentLaws.{says_this, argument_says, argument_allowed, argument_good}
+use Rattle.requests.proofs.RequestLaws.{after_one}
+use Rattle.requests.proofs.ArgumentLaws.{argument_says, argument_allowed, argument_good}
 use Rattle.requests.proofs.NamedLaws.{usable_parent}
-use Rattle.requests.proofs.FixedLaws.{le_says}
 use Rattle.requests.proofs.AmountLaws.{signed_most}
 use Rattle.requests.proofs.LongerLaws.{lack_provided}
 use Rattle.requests.proofs.FlagLaws.{flag_turn}
+use Rattle.tables.specs.Refusals.{number_of}
+use Rattle.tables.specs.declared.refusal.Refusal.{Refusal}
+use Rattle.tables.proofs.RefusalLaws.{answers_one}
 
 -- ---- arguments
 
-module _ (position long : Amount) (room : ℕ) (date : List ℕ) (r : Bool) (s : Says r (MoveAllowed position long room)) where
-  pub write_disallowed : not r ≡ true → WriteAllowed position long room date → ⊥
-  write_disallowed h a = refused r s h a.move
-
-  pub write_says : (q : Bool) → not r ≡ false → Says q (Date date) → Says q (WriteAllowed position long room date)
-  write_says q h d = says_map q (λ x. record { move = passed r s h; date' = x }) (λ a. a.date') d
-
 -- ---- where may be written, and what length that asks for
-
-fixed_bit : (a : ℕ) → variable_bit a ≢ 1 → variable_bit a ≡ 0
-fixed_bit a ne = elim (ℕ_discrete (variable_bit a) 1) [ yes e ↦ absurd (ne e) | no n ↦ omega arith ]
 
 module _ (b : List ℕ) (id at n : ℕ) where
   pub asked_variable : n ≢ 0 → VariableSize b id → at + n ≡ asked_length b id at n
@@ -65,14 +53,6 @@ module _ (b : List ℕ) (id at n : ℕ) where
   asked_variable ne v = rw (ne_eqb n 0 ne, eq-eqb (variable_bit (attribute_of (file_bytes b id))) 1 v)
 
   module _ (r : Bool) (s : Says r (VariableSize b id)) where
-    module _ (end : ℕ) (ends : end ≡ end_of b id) (le : at ≤ end) where
-      pub within_variable : r ≡ true → Within b id at n
-      within_variable h = record { position = rw ends at le; fixed = λ z. let v : VariableSize b id = says_this r _ s h in absurd (omega arith) }
-
-      pub within_fixed : r ≡ false → Says (leb (at + n) end) (Within b id at n)
-      within_fixed h =
-          le_says (Within b id at n) (at + n) end (λ l. record { position = rw ends at le; fixed = λ _. rw ends at l }) (λ w. rw ends (w.fixed (fixed_bit (attribute_of (file_bytes b id)) (rw h at s))))
-
     pub asked_fixed : n ≢ 0 → not r ≡ true → 0 ≡ asked_length b id at n
     unfolding asked_length
     asked_fixed ne h = rw (ne_eqb n 0 ne, ne_eqb (variable_bit (attribute_of (file_bytes b id))) 1 (refused r s h))
@@ -100,7 +80,7 @@ module _ (b : List ℕ) (id at n m : ℕ) (h : Gate (usable_tests 4 b id) m) whe
     unfolding move_tests
     move_lack x k in' is q = gate_skip (usable_tests 4 b id) _ m k h e (gate_passes 14 _ _ k (passed r s in') (rw is at q))
 
-module _ (b withheld body : List ℕ) (id : ℕ) (position long : Amount) (room : ℕ) (date : List ℕ) where
+module _ (b withheld body : List ℕ) (id : ℕ) (position long : Option ℕ) (room : ℕ) (date : List ℕ) where
   module _ (a : Bool) (n : ℕ) (s : Says a (WriteAllowed position long room date)) (g : Gate (argument_tests b withheld (a ≡ true)) n) where
     pub write_stops : n ≢ 0 → Gate (write_tests b withheld body id position long room date) n
     unfolding write_tests
@@ -173,12 +153,6 @@ module _ (b withheld body : List ℕ) (id : ℕ) (position long : Amount) (room 
 -- ---- the books: the attribute
 
 module _ (b : List ℕ) (p : Places) (is : p ≡ places_of b) where
-  pub settle_layout : Layout (places_of b) (length b) → Layout p (length b)
-  settle_layout lay = rw is lay
-
-  pub settle_high : (id : ℕ) → id ≤ (places_of b).indexes → id ≤ p.indexes
-  settle_high id hi = rw is hi
-
   pub settle_is : (id : ℕ) (t : List ℕ) (a : ℕ) (date b' : List ℕ) → t ≡ table_at p b id → a ≡ attribute_of t → b' ≡ put_state p b id (a - a / 2 % 2 * 2) date → b' ≡ settle b id date
   unfolding settle
   settle_is id t a date b' bytes read h = rw (h, read, bytes, is)
@@ -248,44 +222,40 @@ module _ (b : List ℕ) (id at n : ℕ) (date : List ℕ) {extra : ℕ → ℕ} 
 
 -- ---- the request
 
-module _ (b withheld body : List ℕ) (id : ℕ) (position long : Amount) (x : Bool) (input date : List ℕ) where
-  pub write_refused : (m : ℕ) → Gate (write_tests b withheld body id position long (length input) date) m → m ≢ 0 → Wrote b withheld body id position long x input date (Refused m) b body
-  write_refused zero g h = absurd (h refl)
-  write_refused (suc k) g h = record { number = g; answer = refl; books = refl; body'' = refl }
-
-  module _ (m : ℕ) (g : Gate (write_tests b withheld body id position long (length input) date) m) (e : m ≡ 0) (at y n : ℕ) (place : at ≡ amount_value position) (wanted : y ≡ amount_value long) (whole : n ≡ whole_sectors y) where
+module _ (b withheld body : List ℕ) (id : ℕ) (position long : Option ℕ) (x : Bool) (input date : List ℕ) where
+  module _ (g : Gate (write_tests b withheld body id position long (length input) date) 0) (at y n : ℕ) (place : at ≡ amount_value position) (wanted : y ≡ amount_value long) (whole : n ≡ whole_sectors y) where
     amount : n ≡ whole_sectors (amount_value long)
     amount = whole ∙ ap whole_sectors wanted
 
     -- "Zero bytes after rounding changes nothing"
-    pub write_nothing : n ≡ 0 → Wrote b withheld body id position long x input date (Done 0) b body
+    pub write_nothing : n ≡ 0 → Wrote b withheld body id position long x input date (Ok 0) b body
     unfolding written_books written_body filled
     write_nothing z =
         let none : whole_sectors (amount_value long) ≡ 0 = sym amount ∙ z in
         record {
-          number = rw e at g;
-          answer = ap Done (sym none);
+          number = g;
+          answer = sym none;
           books = sym (ap (λ (k : ℕ). written_books b id (amount_value position) k date) none);
           body'' = sym (ap (λ (k : ℕ). written_body b id (amount_value position) k x input date body) none);
         }
 
     pub write_done : (b' body' : List ℕ) (p : Places) → b' ≡ written_books b id at n date → p ≡ places_of b' → body' ≡ filled (view_of p b') id (at / 1024) x input body (n / 1024)
-        → Wrote b withheld body id position long x input date (Done n) b' body'
+        → Wrote b withheld body id position long x input date (Ok n) b' body'
     unfolding written_body
     write_done b' body' p books is filled' = record {
-      number = rw e at g;
-      answer = ap Done amount;
+      number = g;
+      answer = amount;
       books = books ∙ ap₂ (λ (i j : ℕ). written_books b id i j date) place amount;
       body'' = rw (filled', is, books, place, amount);
     }
 
 -- ---- one result
 
-pub wrote_one : (b withheld body : List ℕ) (id : ℕ) (position long : Amount) (x : Bool) (input date : List ℕ) (r s : Answer) (c d u w : List ℕ)
+pub wrote_one : (b withheld body : List ℕ) (id : ℕ) (position long : Option ℕ) (x : Bool) (input date : List ℕ) (r s : Result ℕ Refusal) (c d u w : List ℕ)
     → Wrote b withheld body id position long x input date r c u → Wrote b withheld body id position long x input date s d w → (r ≡ s) × (c ≡ d) × (u ≡ w)
 wrote_one b withheld body id position long x input date r s c d u w h k =
     let e = gate_one _ (number_of r) (number_of s) h.number k.number in (
-      answers_one r s _ _ h.answer k.answer e refl,
+      answers_one r s _ _ h.answer k.answer (λ x y p q. p ∙ sym q) e,
       after_one (number_of r) (number_of s) c d _ b e h.books k.books,
       after_one (number_of r) (number_of s) u w _ body e h.body'' k.body'',
     )

@@ -1,10 +1,9 @@
 -- What a request leaves: "0 is done. Every refusal returns zeros beside its number and alters no lent byte."
-use Rattle.std.specs.Prelude.{◌≢◌, ℕ, zero, suc, List, [], ◌∷◌, ◌++◌}
+use Rattle.std.specs.Prelude.{◌≢◌, ℕ, zero, suc, List, [], ◌∷◌, ◌++◌, Result, Ok, Err}
+use Rattle.tables.specs.declared.refusal.Refusal.{Refusal}
 use Rattle.tables.specs.Sector1.{flag_of}
 use Rattle.tables.specs.Gates.{Test, asks}
 use Rattle.tables.specs.Books.{book_tests}
-use Rattle.requests.specs.declared.answer.Answer.{Answer}
-use Rattle.requests.specs.declared.answer.Answer.TheVariants.{Done, Refused}
 
 -- a lent buffer afterwards: new where the number is 0, else as it was
 abbrev pub after : ℕ → List ℕ → List ℕ → List ℕ
@@ -27,16 +26,7 @@ argument_tests b withheld allowed = use_tests b withheld ++ (asks 7 allowed ∷ 
 
 -- ---- an answer with one value
 
--- this paper's number and value
-abbrev pub number_of : Answer → ℕ
-number_of (Done n) = 0
-number_of (Refused n) = n
-
-abbrev pub value_of : Answer → ℕ
-value_of (Done n) = n
-value_of (Refused n) = 0
-
--- the answer of a number: with its value where it is 0
-abbrev pub answer_of : ℕ → ℕ → Answer
-answer_of zero value = Done value
-answer_of (suc k) value = Refused (suc k)
+-- this paper's value, 0 beside a refusal
+abbrev pub value_of : Result ℕ Refusal → ℕ
+value_of (Ok n) = n
+value_of (Err e) = 0

@@ -1,47 +1,36 @@
 -- "Say which rule the card breaks": the broken rule and its place. "Answers 1 to 3 are reported as `refused=`"; so
 -- is 7 for the withheld list (W7); the volume need not be mounted.
-use Rattle.std.specs.Prelude.{◌≡◌, ℕ, zero, suc, ◌≤◌, List, [], ◌∷◌, ◌++◌, length}
+use Rattle.std.specs.Prelude.{◌≡◌, ℕ, ◌≤◌, List, [], ◌∷◌, ◌++◌, length, Option, Some, None, Result, Ok, Err, IfOk}
+use Rattle.tables.specs.declared.refusal.Refusal.{Refusal}
+use Rattle.tables.specs.Refusals.{number, number_of}
 use Rattle.tables.specs.Places.{places_of}
 use Rattle.tables.specs.Gates.{Gate}
 use Rattle.tables.specs.Books.{withheld_tests}
 use Rattle.examination.specs.declared.fault.Fault.{Fault}
-use Rattle.examination.specs.declared.fault.Fault.TheVariants.{Nothing, AtZone, AtSector, AtIndex, AtCount}
+use Rattle.examination.specs.declared.fault.Fault.TheVariants.{AtZone, AtSector, AtIndex, AtCount}
 use Rattle.examination.specs.Rulings.{rulings}
 use Rattle.examination.specs.Faults.{rule_of, place_kind_of, fault_place, NamesFault}
-use Rattle.requests.specs.declared.broken_rule.Diagnosis.{Diagnosis}
-use Rattle.requests.specs.declared.broken_rule.Diagnosis.TheVariants.{Found, Refused}
-use Rattle.requests.specs.declared.report.Text.{Text}
+use Rattle.requests.specs.declared.text.Text.{Text}
 use Rattle.requests.specs.Text.{line_of}
-use Rattle.requests.specs.Report.{refused_line, as_text}
+use Rattle.requests.specs.Report.{refused_line}
 
--- this paper's number of an answer, and its rule, kind and place: zeros where no rule is broken, and beside a refusal
-abbrev pub number_of : Diagnosis → ℕ
-number_of (Found f) = 0
-number_of (Refused n) = n
+-- this paper's rule, kind and place of an answer: zeros where no rule is broken, and beside a refusal
+abbrev pub rule_value : Result (Option Fault) Refusal → ℕ
+rule_value (Ok f) = rule_of f
+rule_value (Err e) = 0
 
-abbrev pub rule_value : Diagnosis → ℕ
-rule_value (Found f) = rule_of f
-rule_value (Refused n) = 0
+abbrev pub kind_value : Result (Option Fault) Refusal → ℕ
+kind_value (Ok f) = place_kind_of f
+kind_value (Err e) = 0
 
-abbrev pub kind_value : Diagnosis → ℕ
-kind_value (Found f) = place_kind_of f
-kind_value (Refused n) = 0
-
-abbrev pub place_value : Diagnosis → ℕ
-place_value (Found f) = fault_place f
-place_value (Refused n) = 0
-
--- the answer of a number: with what was found where it is 0
-abbrev pub diagnosis_of : ℕ → Fault → Diagnosis
-diagnosis_of zero f = Found f
-diagnosis_of (suc k) f = Refused (suc k)
+abbrev pub place_value : Result (Option Fault) Refusal → ℕ
+place_value (Ok f) = fault_place f
+place_value (Err e) = 0
 
 -- broken_rule's promise: one of the numbers 1 to 3, 7 for the withheld list, or the lowest rule broken and in it the lowest place
-pub record Diagnosed (b withheld : List ℕ) (r : Diagnosis) : Type 0 where
-  pub fault : Fault
+pub record Diagnosed (b withheld : List ℕ) (r : Result (Option Fault) Refusal) : Type 0 where
   pub number : Gate (withheld_tests b withheld) (number_of r)
-  pub answer : r ≡ diagnosis_of (number_of r) fault
-  pub names : number_of r ≡ 0 → NamesFault (rulings (places_of b) b withheld) fault
+  pub answer : IfOk r (NamesFault (rulings (places_of b) b withheld))
 
 -- ---- "Output: `rule=`, `kind=`, `place=`, one a line; `rule=none` alone if nothing fails."
 
@@ -74,24 +63,24 @@ none_line = 114 ∷ 117 ∷ 108 ∷ 101 ∷ 61 ∷ 110 ∷ 111 ∷ 110 ∷ 101 �
 unfoldable pub place_lines : ℕ → List ℕ → ℕ → List ℕ
 place_lines rule kind place = rule_line rule ++ (kind ++ place_line place)
 
-abbrev pub fault_lines : Fault → List ℕ
-fault_lines Nothing = none_line
-fault_lines (AtZone rule z) = place_lines rule zone_line z.0
-fault_lines (AtSector rule s) = place_lines rule sector_line s.0
-fault_lines (AtIndex rule i) = place_lines rule index_line i.0
-fault_lines (AtCount rule) = place_lines rule count_line 0
+abbrev pub fault_lines : Option Fault → List ℕ
+fault_lines None = none_line
+fault_lines (Some (AtZone rule z)) = place_lines rule zone_line z.0
+fault_lines (Some (AtSector rule s)) = place_lines rule sector_line s.0
+fault_lines (Some (AtIndex rule i)) = place_lines rule index_line i.0
+fault_lines (Some (AtCount rule)) = place_lines rule count_line 0
 
-abbrev pub diagnosis_lines : Diagnosis → List ℕ
-diagnosis_lines (Found f) = fault_lines f
-diagnosis_lines (Refused n) = refused_line n
+abbrev pub diagnosis_lines : Result (Option Fault) Refusal → List ℕ
+diagnosis_lines (Ok f) = fault_lines f
+diagnosis_lines (Err e) = refused_line (number e)
 
 -- a text of these bytes, at most 64
 pub record ShortText (xs : List ℕ) (t : Text) : Type 0 where
-  pub text : t ≡ as_text xs
+  pub text : t ≡ xs
   pub short : length xs ≤ 64
 
 -- broken_text's promise: every byte of its text, of at most 64
 pub record DiagnosisText (b withheld : List ℕ) (t : Text) : Type 0 where
-  pub diagnosis : Diagnosis
+  pub diagnosis : Result (Option Fault) Refusal
   pub diagnosed : Diagnosed b withheld diagnosis
   pub lines : ShortText (diagnosis_lines diagnosis) t

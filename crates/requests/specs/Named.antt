@@ -4,11 +4,18 @@ use Rattle.tables.specs.Indexes.{table_at, attribute_of, weight, deleted_bit, va
 use Rattle.tables.specs.Places.{places_of}
 use Rattle.tables.specs.Gates.{Test, asks}
 use Rattle.tables.specs.Views.{view_of, Parent}
+use Rattle.requests.specs.declared.named.State.{State}
+use Rattle.requests.specs.declared.named.State.TheVariants.{Active, Deleted}
 use Rattle.requests.specs.Answers.{argument_tests}
 
 -- the bytes of index table id
 abbrev pub file_bytes : List ℕ → ℕ → List ℕ
 file_bytes b id = table_at (places_of b) b id
+
+-- weight 1 of a file's attribute in the state that is needed
+abbrev pub state_bit : State → ℕ
+state_bit Active = 0
+state_bit Deleted = 1
 
 -- 8, then 9: a file whose weight 1 is d: 0 where an active file is needed, 1 where a deleted one is
 unfoldable pub state_tests : ℕ → List ℕ → ℕ → List Test

@@ -1,5 +1,5 @@
 -- "Report: lines as below, or `refused=` and the number", each line ended by one line feed.
-use Rattle.std.specs.Prelude.{◌≡◌, ℕ, zero, suc, ◌-◌, ◌*◌, ◌≤◌, List, [], ◌∷◌, ◌++◌, length, replicate}
+use Rattle.std.specs.Prelude.{◌≡◌, ℕ, zero, suc, ◌*◌, ◌≤◌, List, [], ◌∷◌, ◌++◌, length}
 use Rattle.tables.specs.declared.places.Places.{Places}
 use Rattle.tables.specs.Sector1.{active_of, deleted_of, free_of, system_of, directory_of, flag_of}
 use Rattle.tables.specs.Places.{places_of}
@@ -8,7 +8,7 @@ use Rattle.tables.specs.Books.{book_tests}
 use Rattle.tables.specs.Views.{view_of}
 use Rattle.tables.specs.Open.{open_zones}
 use Rattle.requests.specs.declared.report.Figures.{Figures}
-use Rattle.requests.specs.declared.report.Text.{Text}
+use Rattle.requests.specs.declared.text.Text.{Text}
 use Rattle.requests.specs.Space.{used_sectors}
 use Rattle.requests.specs.Text.{line_of}
 
@@ -105,10 +105,6 @@ pub record Small (f : Figures) : Type 0 where
   pub openzones : f.openzones ≤ 254
   pub mounted : f.mounted ≤ 1
 
--- a text by value: its bytes, then nulls, and how many it has
-unfoldable pub as_text : List ℕ → Text
-as_text xs = record { bytes = xs ++ replicate (192 - length xs) 0; length = length xs }
-
 -- the report of books that are answered n
 abbrev pub report_of : ℕ → List ℕ → List ℕ
 report_of zero b = lines_of (figures_of (places_of b) b)
@@ -118,5 +114,5 @@ report_of (suc k) b = refused_line (suc k)
 pub record Reported (b withheld : List ℕ) (t : Text) : Type 0 where
   pub number : ℕ
   pub gate : Gate (book_tests b withheld) number
-  pub text : t ≡ as_text (report_of number b)
+  pub text : t ≡ report_of number b
   pub short : length (report_of number b) ≤ 192

@@ -1,15 +1,16 @@
 -- "Search lists ids of active files that match, ascending, as many as the lent list of u32 holds, and the full count. The pattern is 1 to 24
 -- non-null bytes, else 7." "What isn't filled stays."
-use Rattle.std.specs.Prelude.{◌≡◌, ◌≢◌, Bool, cond, ◌&&◌, List, [], ◌∷◌, ℕ, ◌≤◌, ◌<◌, eqb, length, get_or, take}
+use Rattle.std.specs.Prelude.{◌≡◌, ◌≢◌, Bool, cond, ◌&&◌, List, [], ◌∷◌, ℕ, ◌≤◌, ◌<◌, eqb, length, get_or, take, Result, IfOk}
+use Rattle.tables.specs.declared.refusal.Refusal.{Refusal}
+use Rattle.tables.specs.Refusals.{number_of}
 use Rattle.field.specs.Parts.{over}
 use Rattle.patterns.specs.Pattern.{matches}
 use Rattle.tables.specs.Indexes.{name_of}
 use Rattle.tables.specs.Places.{places_of}
 use Rattle.tables.specs.Gates.{Test, Gate}
 use Rattle.tables.specs.Views.{View, view_of}
-use Rattle.requests.specs.declared.answer.Answer.{Answer}
 use Rattle.requests.specs.Active.{is_active, passing}
-use Rattle.requests.specs.Answers.{after, number_of, answer_of, argument_tests}
+use Rattle.requests.specs.Answers.{after, argument_tests}
 
 -- ---- which files
 
@@ -45,7 +46,7 @@ abbrev pub filled_with : List ℕ → List ℕ → List ℕ
 filled_with lent ids = over lent 0 (take (length lent) ids)
 
 -- search's promise
-pub record Searched (b withheld pattern ids : List ℕ) (r : Answer) (ids' : List ℕ) : Type 0 where
+pub record Searched (b withheld pattern ids : List ℕ) (r : Result ℕ Refusal) (ids' : List ℕ) : Type 0 where
   pub number : Gate (search_tests b withheld pattern) (number_of r)
-  pub answer : r ≡ answer_of (number_of r) (length (found b pattern))
+  pub answer : IfOk r (λ (n : ℕ). n ≡ length (found b pattern))
   pub list : ids' ≡ after (number_of r) (filled_with ids (found b pattern)) ids

@@ -1,16 +1,16 @@
 -- "Write judges position, length and input buffer by the same 7s, exchanges and answers alike; write-protected: 10; position past the end, or a
 -- fixed file written past its end, is 14. A variable file first grows to position plus rounded length if that is longer; a fixed file's length
 -- stays. Each written sector is filled where it lies in the body. Zero bytes after rounding changes nothing; otherwise weight 2 is cleared."
-use Rattle.std.specs.Prelude.{◌≡◌, ◌≢◌, Bool, cond, List, ◌∷◌, ◌++◌, ℕ, ◌+◌, ◌-◌, ◌*◌, ◌/◌, ◌%◌, ◌≤◌, ◌<◌, eqb, length}
+use Rattle.std.specs.Prelude.{◌≡◌, ◌≢◌, Bool, cond, List, ◌∷◌, ◌++◌, ℕ, ◌+◌, ◌-◌, ◌*◌, ◌/◌, ◌%◌, ◌≤◌, ◌<◌, eqb, length, Result, IfOk, Option}
+use Rattle.tables.specs.declared.refusal.Refusal.{Refusal}
+use Rattle.tables.specs.Refusals.{number_of}
 use Rattle.tables.specs.Dates.{Date}
 use Rattle.tables.specs.Indexes.{attribute_of, variable_bit}
 use Rattle.tables.specs.Places.{places_of}
 use Rattle.tables.specs.Gates.{Test, asks, Gate}
 use Rattle.tables.specs.Views.{view_of}
 use Rattle.files.specs.Moves.{filled}
-use Rattle.requests.specs.declared.amount.Amount.{Amount}
-use Rattle.requests.specs.declared.answer.Answer.{Answer}
-use Rattle.requests.specs.Answers.{after, number_of, answer_of, argument_tests}
+use Rattle.requests.specs.Answers.{after, argument_tests}
 use Rattle.requests.specs.Body.{body_test}
 use Rattle.requests.specs.Amounts.{amount_value}
 use Rattle.requests.specs.Grow.{lack_tests, grown_to}
@@ -21,7 +21,7 @@ use Rattle.requests.specs.State.{put_state}
 -- ---- the numbers
 
 -- what write asks of its arguments: what read asks, and a date
-pub record WriteAllowed (position long : Amount) (room : ℕ) (date : List ℕ) : Type 0 where
+pub record WriteAllowed (position long : Option ℕ) (room : ℕ) (date : List ℕ) : Type 0 where
   pub move : MoveAllowed position long room
   pub date' : Date date
 
@@ -40,7 +40,7 @@ unfolding asked_length
 move_tests b id at n = usable_tests 4 b id ++ (asks 14 (Within b id at n) ∷ lack_tests b id (asked_length b id at n))
 
 -- 1 to 5, 7, 15, then these
-unfoldable pub write_tests : List ℕ → List ℕ → List ℕ → ℕ → Amount → Amount → ℕ → List ℕ → List Test
+unfoldable pub write_tests : List ℕ → List ℕ → List ℕ → ℕ → Option ℕ → Option ℕ → ℕ → List ℕ → List Test
 unfolding move_tests
 write_tests b withheld body id position long room date =
     argument_tests b withheld (WriteAllowed position long room date) ++ (body_test b body ∷ move_tests b id (amount_value position) (whole_sectors (amount_value long)))
@@ -69,9 +69,9 @@ written_body b id at n exchange input date body =
     let b' = written_books b id at n date in filled (view_of (places_of b') b') id (at / 1024) exchange input body (n / 1024)
 
 -- write's promise
-pub record Wrote (b withheld body : List ℕ) (id : ℕ) (position long : Amount) (exchange : Bool) (input date : List ℕ) (r : Answer) (b' body' : List ℕ) : Type 0 where
+pub record Wrote (b withheld body : List ℕ) (id : ℕ) (position long : Option ℕ) (exchange : Bool) (input date : List ℕ) (r : Result ℕ Refusal) (b' body' : List ℕ) : Type 0 where
   pub number : Gate (write_tests b withheld body id position long (length input) date) (number_of r)
-  pub answer : r ≡ answer_of (number_of r) (whole_sectors (amount_value long))
+  pub answer : IfOk r (λ (n : ℕ). n ≡ whole_sectors (amount_value long))
   pub books : b' ≡ after (number_of r) (written_books b id (amount_value position) (whole_sectors (amount_value long)) date) b
   pub body'' : body' ≡ after (number_of r) (written_body b id (amount_value position) (whole_sectors (amount_value long)) exchange input date body) body
 

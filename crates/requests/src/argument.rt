@@ -1,20 +1,19 @@
 // The numbers that begin most requests: 1 to 5, and 7 for the arguments.
 ghost use Rattle.std.specs.Prelude.{◌≡◌, true};
+ghost use Rattle.tables.specs.Refusals.{number_of};
 ghost use Rattle.tables.specs.Gates.{Gate};
 ghost use Rattle.requests.specs.Answers.{argument_tests};
 
-use crate::judged::use_number;
+use crate::judged::check_use;
+use tables::refusal::Refusal;
 
 // Numbers 1 to 5, and 7.
-pub fn argument_number(b: &[u8], withheld: &[u32], allowed: bool) -> u32
-    ensures { Gate (argument_tests b.now withheld.now (allowed ≡ true)) result }
+pub fn check_argument(b: &[u8], withheld: &[u32], allowed: bool) -> Result<(), Refusal>
+    ensures { Gate (argument_tests b.now withheld.now (allowed ≡ true)) (number_of result) }
 {
-    let n = use_number(b, withheld);
-    if n != 0 {
-        return n;
-    }
+    check_use(b, withheld)?;
     if !allowed {
-        return 7;
+        return Err(Refusal::BadArgument);
     }
-    0
+    Ok(())
 }

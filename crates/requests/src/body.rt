@@ -1,12 +1,14 @@
 // Requests that take the body: has it its length?
 ghost use Rattle.std.specs.Prelude.{◌≡◌, true};
 ghost use Rattle.field.specs.Says.{Says};
+ghost use Rattle.tables.specs.Refusals.{number_of};
 ghost use Rattle.tables.specs.Books.{GoodSome};
 ghost use Rattle.tables.specs.Gates.{Gate};
 ghost use Rattle.tables.specs.Places.{places_of};
 ghost use Rattle.requests.specs.Body.{BodySized, lent_tests};
 
-use crate::argument::argument_number;
+use crate::argument::check_argument;
+use tables::refusal::Refusal;
 use tables::sector0::zones;
 use tables::sizes::{SECTOR_LEN, ZONE};
 
@@ -22,15 +24,12 @@ pub fn body_sized(b: &[u8], body: &[u8]) -> bool
 }
 
 // Numbers 1 to 5, 7, and 15.
-pub fn lent_number(b: &[u8], withheld: &[u32], body: &[u8], allowed: bool) -> u32
-    ensures { Gate (lent_tests b.now withheld.now body.now (allowed ≡ true)) result }
+pub fn check_lent(b: &[u8], withheld: &[u32], body: &[u8], allowed: bool) -> Result<(), Refusal>
+    ensures { Gate (lent_tests b.now withheld.now body.now (allowed ≡ true)) (number_of result) }
 {
-    let n = argument_number(b, withheld, allowed);
-    if n != 0 {
-        return n;
-    }
+    check_argument(b, withheld, allowed)?;
     if !body_sized(b, body) {
-        return 15;
+        return Err(Refusal::WrongBody);
     }
-    0
+    Ok(())
 }

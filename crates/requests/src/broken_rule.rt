@@ -2,21 +2,14 @@
 ghost use Rattle.requests.specs.Diagnosis.{Diagnosed};
 
 use examination::broken::lowest_fault;
-use examination::check::{Placing, find_tables};
+use examination::check::find_tables;
 use examination::fault::Fault;
+use tables::books::Books;
+use tables::refusal::Refusal;
 
-#[derive(Clone, Copy)]
-pub enum Diagnosis {
-    Found(Fault),
-    Refused(u32),
-}
-
-pub fn broken_rule(b: &[u8], withheld: &[u32]) -> Diagnosis
+pub fn broken_rule(b: &[u8], withheld: &[u32]) -> Result<Option<Fault>, Refusal>
     ensures { Diagnosed b.now withheld.now result }
 {
-    let found = find_tables(b, withheld);
-    match found {
-        Placing::Refused(n) => Diagnosis::Refused(n),
-        Placing::At(p) => Diagnosis::Found(lowest_fault(b, p, withheld)),
-    }
+    let p = find_tables(b, withheld)?;
+    Ok(lowest_fault(&Books { raw: b, places: p }, withheld))
 }

@@ -4,11 +4,12 @@ ghost use Rattle.field.specs.Says.{Says};
 ghost use Rattle.tables.specs.Counts.{Countable};
 ghost use Rattle.requests.specs.Create.{FixedAllowed, counts_for, CreatedFixed, HasCounts};
 
-use crate::amount::{Amount, number_of};
-use crate::argument::argument_number;
-use crate::create::Created;
+use crate::argument::check_argument;
 use crate::make::{make_file, new_file_valid};
-use tables::counts::{Chosen, counts};
+use tables::counts::counts;
+use tables::entry::Size;
+use tables::kinds::Index;
+use tables::refusal::Refusal;
 
 // Is w a sum of the six weights, and n the size of a fixed file?
 fn countable(w: u32, n: u32) -> bool
@@ -30,19 +31,16 @@ fn countable(w: u32, n: u32) -> bool
 }
 
 // Have types and size counts?
-fn have_counts(types: Chosen, size: Amount) -> bool
+fn have_counts(types: Option<u32>, size: Option<u32>) -> bool
     ensures { Says result (HasCounts types size) }
 {
-    match types {
-        Chosen::Bad => false,
-        Chosen::Types(w) => match size {
-            Amount::Below => false,
-            Amount::Is(n) => countable(w, n),
-        },
+    match (types, size) {
+        (Some(w), Some(n)) => countable(w, n),
+        _ => false,
     }
 }
 
-fn fixed_allowed(name: &[u8], size: Amount, types: Chosen, kind: u32, date: &[u8]) -> bool
+fn fixed_allowed(name: &[u8], size: Option<u32>, types: Option<u32>, kind: u32, date: &[u8]) -> bool
     ensures { Says result (FixedAllowed name.now size types kind date.now) }
 {
     if !new_file_valid(name, kind, date) {
@@ -52,41 +50,32 @@ fn fixed_allowed(name: &[u8], size: Amount, types: Chosen, kind: u32, date: &[u8
 }
 
 // The blocks of each type.
-fn counts_for(types: Chosen, size: Amount) -> [u32; 6]
+fn counts_for(types: Option<u32>, size: Option<u32>) -> [u32; 6]
     requires { HasCounts types size }
     ensures { result ≡ counts_for types size }
 {
-    match types {
-        Chosen::Bad => [0u32; 6],
-        Chosen::Types(w) => match size {
-            Amount::Below => [0u32; 6],
-            Amount::Is(n) => counts(w, n),
-        },
-    }
+    counts(types.unwrap(), size.unwrap())
 }
 
 pub fn create_fixed(
     b: &mut [u8],
     withheld: &[u32],
     name: &[u8],
-    size: Amount,
-    types: Chosen,
+    size: Option<u32>,
+    types: Option<u32>,
     kind: u32,
     date: &[u8],
-) -> Created
+) -> Result<Index, Refusal>
     ensures { CreatedFixed b.old withheld.now name.now size types kind date.now result b.new }
 {
-    let n = argument_number(b, withheld, fixed_allowed(name, size, types, kind, date));
-    if n != 0 {
-        return Created::Refused(n);
-    }
+    check_argument(b, withheld, fixed_allowed(name, size, types, kind, date))?;
     make_file(
         b,
         counts_for(types, size),
         name,
         kind,
         date,
-        number_of(size),
-        0,
+        size.unwrap_or(0),
+        Size::Fixed,
     )
 }

@@ -1,129 +1,83 @@
 // Format: fresh books, whatever stood there.
 ghost use Rattle.std.specs.Prelude.{◌≤◌};
 ghost use Rattle.field.specs.Says.{Says};
+ghost use Rattle.tables.specs.Refusals.{number_of};
 ghost use Rattle.tables.specs.Gates.{Gate};
-ghost use Rattle.tables.specs.Format.{Formattable, Writable};
+ghost use Rattle.tables.specs.Format.{Formattable, Writable, label_of};
 ghost use Rattle.requests.specs.Format.{Fits, format_tests, Formatted};
 
-use crate::amount::{Amount, number_of};
 use examination::check::{sized, stands};
 use tables::date::date_valid;
 use tables::format::{fresh_places, write_format};
+use tables::label::Label;
+use tables::refusal::Refusal;
 
 // Are Z and N allowed, and is there room for their tables?
 fn formattable(len: usize, z: u32, n: u32) -> bool
     requires { len ≤ 1048576 }
     ensures { Says result (Formattable len z n) }
 {
-    if z < 3 {
-        return false;
-    }
-    if z > 256 {
-        return false;
-    }
-    if n < 1 {
-        return false;
-    }
-    if n > 4096 {
-        return false;
-    }
-    stands(fresh_places(z, n), len)
+    (3..=256).contains(&z) && (1..=4096).contains(&n) && stands(fresh_places(z, n), len)
 }
 
-fn fits(len: usize, zones: Amount, indexes: Amount) -> bool
+fn fits(len: usize, zones: Option<u32>, indexes: Option<u32>) -> bool
     requires { len ≤ 1048576 }
     ensures { Says result (Fits len zones indexes) }
 {
-    match zones {
-        Amount::Below => false,
-        Amount::Is(z) => match indexes {
-            Amount::Below => false,
-            Amount::Is(n) => formattable(len, z, n),
-        },
+    match (zones, indexes) {
+        (Some(z), Some(n)) => formattable(len, z, n),
+        _ => false,
     }
 }
 
-// Is no text longer than its field, and the date valid? That is asked of any id alike.
-fn writable(application: &[u8], volume: &[u8], owner: &[u8], code: &[u8], date: &[u8]) -> bool
-    ensures { Says result (Writable (record { application = application.now; volume = volume.now; id = 0; owner = owner.now; code = code.now; date = date.now })) }
+// Is no text longer than its field, and the date valid?
+fn writable(label: &Label<'_>) -> bool
+    ensures { Says result (Writable (label_of label.now)) }
 {
-    if application.len() > 16 {
+    if label.application.len() > 16 {
         return false;
     }
-    if volume.len() > 32 {
+    if label.volume.len() > 32 {
         return false;
     }
-    if owner.len() > 32 {
+    if label.owner.len() > 32 {
         return false;
     }
-    if code.len() > 32 {
+    if label.code.len() > 32 {
         return false;
     }
-    date_valid(date)
+    date_valid(label.date)
 }
 
-fn format_number(
+fn check_format(
     b: &[u8],
-    zones: Amount,
-    indexes: Amount,
-    application: &[u8],
-    volume: &[u8],
-    id: u32,
-    owner: &[u8],
-    code: &[u8],
-    date: &[u8],
-) -> u32
-    ensures { Gate (format_tests b.now zones indexes (record { application = application.now; volume = volume.now; id = id; owner = owner.now; code = code.now; date = date.now })) result }
+    zones: Option<u32>,
+    indexes: Option<u32>,
+    label: &Label<'_>,
+) -> Result<(), Refusal>
+    ensures { Gate (format_tests b.now zones indexes (label_of label.now)) (number_of result) }
 {
     if !sized(b) {
-        return 1;
+        return Err(Refusal::WrongLength);
     }
     if !fits(b.len(), zones, indexes) {
-        return 3;
+        return Err(Refusal::WrongLimits);
     }
-    if !writable(application, volume, owner, code, date) {
-        return 7;
+    if !writable(label) {
+        return Err(Refusal::BadArgument);
     }
-    0
+    Ok(())
 }
 
 pub fn format(
     b: &mut [u8],
-    zones: Amount,
-    indexes: Amount,
-    application: &[u8],
-    volume: &[u8],
-    id: u32,
-    owner: &[u8],
-    code: &[u8],
-    date: &[u8],
-) -> u32
-    ensures { Formatted b.old zones indexes (record { application = application.now; volume = volume.now; id = id; owner = owner.now; code = code.now; date = date.now }) result b.new }
+    zones: Option<u32>,
+    indexes: Option<u32>,
+    label: &Label<'_>,
+) -> Result<(), Refusal>
+    ensures { Formatted b.old zones indexes (label_of label.now) (number_of result) b.new }
 {
-    let n = format_number(
-        b,
-        zones,
-        indexes,
-        application,
-        volume,
-        id,
-        owner,
-        code,
-        date,
-    );
-    if n != 0 {
-        return n;
-    }
-    write_format(
-        b,
-        number_of(zones),
-        number_of(indexes),
-        application,
-        volume,
-        id,
-        owner,
-        code,
-        date,
-    );
-    0
+    check_format(b, zones, indexes, label)?;
+    write_format(b, zones.unwrap_or(0), indexes.unwrap_or(0), label);
+    Ok(())
 }

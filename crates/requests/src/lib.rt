@@ -4,12 +4,10 @@
 mod active;
 pub mod actual_delete;
 pub mod amount;
-pub mod answer;
 mod argument;
 mod body;
 pub mod broken_rule;
 pub mod broken_text;
-pub mod create;
 pub mod create_fixed;
 pub mod create_variable;
 mod deleted;

@@ -1,28 +1,15 @@
 // Mount: the flag becomes 1.
-ghost use Rattle.tables.specs.Gates.{Gate};
-ghost use Rattle.requests.specs.Mount.{mount_tests, Mounted};
+ghost use Rattle.tables.specs.Refusals.{number_of};
+ghost use Rattle.requests.specs.Mount.{Mounted};
 
 use crate::judged::judge;
-use examination::check::Checked;
+use tables::refusal::Refusal;
 use tables::sector1::put_flag;
 
-fn mount_number(b: &[u8], withheld: &[u32]) -> u32
-    ensures { Gate (mount_tests b.now withheld.now) result }
+pub fn mount(b: &mut [u8], withheld: &[u32]) -> Result<(), Refusal>
+    ensures { Mounted b.old withheld.now (number_of result) b.new }
 {
-    let found = judge(b, withheld, 1, 6);
-    match found {
-        Checked::Refused(n) => n,
-        Checked::Fine(_places) => 0,
-    }
-}
-
-pub fn mount(b: &mut [u8], withheld: &[u32]) -> u32
-    ensures { Mounted b.old withheld.now result b.new }
-{
-    let n = mount_number(b, withheld);
-    if n != 0 {
-        return n;
-    }
+    judge(b, withheld, 1, Refusal::AlreadyMounted)?;
     put_flag(b, 1);
-    0
+    Ok(())
 }

@@ -1,81 +1,104 @@
 // Requests that name a file: is there an active or a deleted file of this id, and may it be used?
 ghost use Rattle.std.specs.Prelude.{◌≡◌, true, [], ◌∷◌, ◌<◌};
 ghost use Rattle.field.specs.Says.{Says};
+ghost use Rattle.tables.specs.Refusals.{number_of};
 ghost use Rattle.tables.specs.Gates.{asks, Gate};
 ghost use Rattle.tables.specs.Books.{GoodSome};
 ghost use Rattle.tables.specs.Indexes.{deleted_bit};
-ghost use Rattle.tables.specs.Views.{view_of, Parent};
-ghost use Rattle.requests.specs.Named.{state_tests, asked_tests, Unprotected, usable_tests};
+ghost use Rattle.tables.specs.Views.{books_view, Parent};
+ghost use Rattle.requests.specs.Named.{state_bit, state_tests, asked_tests, Unprotected, usable_tests};
 
-use crate::argument::argument_number;
+use crate::argument::check_argument;
+use tables::books::Books;
 use tables::entry::decode;
 use tables::index::{attribute, table};
 use tables::kind::is_parent;
 use tables::kinds::Index;
-use tables::places::{Places, read_places};
+use tables::places::read_places;
+use tables::refusal::Refusal;
 
-// Number 9: weight 1 is not what is needed.
-fn mark_number(attribute: u32, d: u32) -> u32
-    ensures { Gate (asks 9 (deleted_bit attribute ≡ d) ∷ []) result }
-{
-    if attribute % 2 != d {
-        return 9;
-    }
-    0
+// The state that a request needs its file in.
+#[derive(Clone, Copy)]
+pub enum State {
+    Active,
+    Deleted,
 }
 
-// Numbers 8 and 9: d is 0 where an active file is needed, 1 where a deleted one is.
-pub fn state_number(b: &[u8], p: Places, id: u32, d: u32) -> u32
-    requires { GoodSome b.now p }
-    ensures { Gate (state_tests d b.now id) result }
+impl State {
+    // Weight 1 of the attribute of a file in it.
+    fn bit(self) -> u32
+        ensures { result ≡ state_bit self }
+    {
+        match self {
+            State::Active => 0,
+            State::Deleted => 1,
+        }
+    }
+}
+
+// Number 9: weight 1 is not what is needed.
+fn check_mark(attribute: u32, state: State) -> Result<(), Refusal>
+    ensures { Gate (asks 9 (deleted_bit attribute ≡ state_bit state) ∷ []) (number_of result) }
+{
+    if attribute % 2 != state.bit() {
+        return Err(Refusal::WrongState);
+    }
+    Ok(())
+}
+
+// Numbers 8 and 9: there is a file of this id in the state that is needed.
+pub fn check_state(b: &Books<'_>, id: u32, state: State) -> Result<(), Refusal>
+    requires { GoodSome b.now.raw.now b.now.places }
+    ensures { Gate (state_tests (state_bit state) b.now.raw.now id) (number_of result) }
 {
     if id < 1 {
-        return 8;
+        return Err(Refusal::NoFile);
     }
-    if id > p.indexes {
-        return 8;
+    if id > b.places.indexes {
+        return Err(Refusal::NoFile);
     }
-    let e = decode(b, p, Index(id));
+    let e = decode(b, Index(id));
     if !is_parent(e) {
-        return 8;
+        return Err(Refusal::NoFile);
     }
-    mark_number(e.attribute, d)
+    check_mark(e.attribute, state)
 }
 
 // Numbers 1 to 5, 7, 8 and 9.
-pub fn asked_number(b: &[u8], withheld: &[u32], allowed: bool, id: u32, d: u32) -> u32
-    ensures { Gate (asked_tests d b.now withheld.now (allowed ≡ true) id) result }
+pub fn check_asked(
+    b: &[u8],
+    withheld: &[u32],
+    allowed: bool,
+    id: u32,
+    state: State,
+) -> Result<(), Refusal>
+    ensures { Gate (asked_tests (state_bit state) b.now withheld.now (allowed ≡ true) id) (number_of result) }
 {
-    let n = argument_number(b, withheld, allowed);
-    if n != 0 {
-        return n;
-    }
-    state_number(b, read_places(b), id, d)
+    check_argument(b, withheld, allowed)?;
+    let p = read_places(b);
+    check_state(&Books { raw: b, places: p }, id, state)
 }
 
 // Is file f not protected by weight w?
-pub fn unprotected(b: &[u8], p: Places, f: Index, w: u32) -> bool
-    requires good_some { GoodSome b.now p }
-    requires parent { Parent (view_of p b.now) f.0 }
+pub fn unprotected(b: &Books<'_>, f: Index, w: u32) -> bool
+    requires good_some { GoodSome b.now.raw.now b.now.places }
+    requires parent { Parent (books_view b.now) f.0 }
     requires w_nonzero { 0 < w }
-    ensures { Says result (Unprotected w b.now f.0) }
+    ensures { Says result (Unprotected w b.now.raw.now f.0) }
 {
-    attribute(table(b, p, f)) / w % 2 == 0
+    attribute(table(b, f)) / w % 2 == 0
 }
 
 // Numbers 8 and 9, and 10 where the file is protected by weight w.
-pub fn usable_number(b: &[u8], p: Places, id: u32, w: u32) -> u32
-    requires good_some { GoodSome b.now p }
+pub fn check_usable(b: &Books<'_>, id: u32, w: u32) -> Result<(), Refusal>
+    requires good_some { GoodSome b.now.raw.now b.now.places }
     requires w_nonzero { 0 < w }
-    ensures { Gate (usable_tests w b.now id) result }
+    ensures { Gate (usable_tests w b.now.raw.now id) (number_of result) }
 {
-    let n = state_number(b, p, id, 0);
-    if n != 0 {
-        return n;
-    }
+    check_state(b, id, State::Active)?;
     let f = Index(id);
-    if !unprotected(b, p, f, w) {
-        return 10;
+    if !unprotected(b, f, w) {
+        return Err(Refusal::ProtectedFile);
     }
-    0
+    Ok(())
 }

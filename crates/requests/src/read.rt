@@ -1,62 +1,58 @@
 // Read: a file's sectors, from a position on, to the caller's buffer.
 ghost use Rattle.std.specs.Prelude.{◌≡◌, ◌<◌};
+ghost use Rattle.tables.specs.Refusals.{number_of};
 ghost use Rattle.tables.specs.Gates.{Gate};
 ghost use Rattle.tables.specs.Books.{GoodSome};
-ghost use Rattle.tables.specs.Views.{view_of, Parent};
+ghost use Rattle.tables.specs.Views.{books_view, Parent};
 ghost use Rattle.requests.specs.Read.{read_tests, read_amount, ReadOut};
 ghost use Rattle.requests.specs.Moving.{end_of};
 
-use crate::amount::{Amount, number_of};
-use crate::answer::Answer;
-use crate::argument::argument_number;
+use crate::argument::check_argument;
 use crate::body::body_sized;
 use crate::moving::{end_of, move_allowed, whole_sectors};
-use crate::named::usable_number;
+use crate::named::check_usable;
 use files::sectors::read_sectors;
+use tables::books::Books;
 use tables::index::READ_PROTECTED;
 use tables::kinds::Index;
-use tables::places::{Places, read_places};
+use tables::places::read_places;
+use tables::refusal::Refusal;
 use tables::sizes::SECTOR;
 
-fn read_number(
+fn check_read(
     b: &[u8],
     withheld: &[u32],
     body: &[u8],
     id: u32,
-    position: Amount,
-    long: Amount,
+    position: Option<u32>,
+    long: Option<u32>,
     room: usize,
-) -> u32
-    ensures { Gate (read_tests b.now withheld.now body.now id position long room) result }
+) -> Result<(), Refusal>
+    ensures { Gate (read_tests b.now withheld.now body.now id position long room) (number_of result) }
 {
-    let n = argument_number(b, withheld, move_allowed(position, long, room));
-    if n != 0 {
-        return n;
-    }
+    check_argument(b, withheld, move_allowed(position, long, room))?;
     if !body_sized(b, body) {
-        return 15;
+        return Err(Refusal::WrongBody);
     }
     let p = read_places(b);
-    let m = usable_number(b, p, id, READ_PROTECTED);
-    if m != 0 {
-        return m;
-    }
+    let v = Books { raw: b, places: p };
+    check_usable(&v, id, READ_PROTECTED)?;
     let f = Index(id);
-    if number_of(position) >= end_of(b, p, f) {
-        return 14;
+    if position.unwrap_or(0) >= end_of(&v, f) {
+        return Err(Refusal::PastEnd);
     }
-    0
+    Ok(())
 }
 
 // The smaller of the wanted bytes and what remains.
-fn read_amount(b: &[u8], p: Places, f: Index, at: u32, long: u32) -> u32
-    requires good_some { GoodSome b.now p }
-    requires parent { Parent (view_of p b.now) f.0 }
-    requires at_bound { at < end_of b.now f.0 }
-    ensures { result ≡ read_amount b.now f.0 at long }
+fn read_amount(b: &Books<'_>, f: Index, at: u32, long: u32) -> u32
+    requires good_some { GoodSome b.now.raw.now b.now.places }
+    requires parent { Parent (books_view b.now) f.0 }
+    requires at_bound { at < end_of b.now.raw.now f.0 }
+    ensures { result ≡ read_amount b.now.raw.now f.0 at long }
 {
     let wanted = whole_sectors(long);
-    let left = end_of(b, p, f) - at;
+    let left = end_of(b, f) - at;
     if wanted <= left {
         return wanted;
     }
@@ -68,21 +64,19 @@ pub fn read(
     withheld: &[u32],
     body: &[u8],
     id: u32,
-    position: Amount,
-    long: Amount,
+    position: Option<u32>,
+    long: Option<u32>,
     exchange: bool,
     out: &mut [u8],
-) -> Answer
+) -> Result<u32, Refusal>
     ensures { ReadOut b.now withheld.now body.now id position long exchange out.old result out.new }
 {
-    let n = read_number(b, withheld, body, id, position, long, out.len());
-    if n != 0 {
-        return Answer::Refused(n);
-    }
+    check_read(b, withheld, body, id, position, long, out.len())?;
     let p = read_places(b);
+    let v = Books { raw: b, places: p };
     let f = Index(id);
-    let at = number_of(position);
-    let amount = read_amount(b, p, f, at, number_of(long));
-    read_sectors(b, p, f, at / SECTOR, amount / SECTOR, exchange, body, out);
-    Answer::Done(amount)
+    let at = position.unwrap_or(0);
+    let amount = read_amount(&v, f, at, long.unwrap_or(0));
+    read_sectors(&v, f, at / SECTOR, amount / SECTOR, exchange, body, out);
+    Ok(amount)
 }

@@ -1,50 +1,49 @@
 // Show header: a file's header as it lies in the caller's body.
+ghost use Rattle.tables.specs.Refusals.{number_of};
 ghost use Rattle.tables.specs.Gates.{Gate};
 ghost use Rattle.requests.specs.Header.{show_header_tests, HeaderShownAt, HeaderShown};
 
 use crate::body::body_sized;
-use crate::judged::use_number;
-use crate::named::usable_number;
+use crate::judged::check_use;
+use crate::named::check_usable;
 use crate::show::Part;
 use files::sectors::body_place;
+use tables::books::Books;
 use tables::index::{HEADER, READ_PROTECTED, pointer_at, table};
 use tables::kinds::Index;
 use tables::places::read_places;
+use tables::refusal::Refusal;
 use tables::sizes::SECTOR_LEN;
 
 // Show header's number.
-pub fn header_number(b: &[u8], withheld: &[u32], body: &[u8], id: u32) -> u32
-    ensures { Gate (show_header_tests b.now withheld.now body.now id) result }
+pub fn check_header(b: &[u8], withheld: &[u32], body: &[u8], id: u32) -> Result<(), Refusal>
+    ensures { Gate (show_header_tests b.now withheld.now body.now id) (number_of result) }
 {
-    let n = use_number(b, withheld);
-    if n != 0 {
-        return n;
-    }
+    check_use(b, withheld)?;
     if !body_sized(b, body) {
-        return 15;
+        return Err(Refusal::WrongBody);
     }
     let p = read_places(b);
-    let m = usable_number(b, p, id, READ_PROTECTED);
-    if m != 0 {
-        return m;
-    }
+    let v = Books { raw: b, places: p };
+    check_usable(&v, id, READ_PROTECTED)?;
     let f = Index(id);
-    let q = pointer_at(table(b, p, f), HEADER);
+    let q = pointer_at(table(&v, f), HEADER);
     if q.count == 0 {
-        return 14;
+        return Err(Refusal::PastEnd);
     }
-    0
+    Ok(())
 }
 
 // Where the header lies; at 0 with no bytes on a refusal.
 pub fn header_part(b: &[u8], withheld: &[u32], body: &[u8], id: u32) -> Part
     ensures { HeaderShownAt b.now withheld.now body.now id result }
 {
-    if header_number(b, withheld, body, id) != 0 {
+    if check_header(b, withheld, body, id).is_err() {
         return Part { at: 0, len: 0 };
     }
     let f = Index(id);
-    let q = pointer_at(table(b, read_places(b), f), HEADER);
+    let p = read_places(b);
+    let q = pointer_at(table(&Books { raw: b, places: p }, f), HEADER);
     Part {
         at: body_place(q.start),
         len: SECTOR_LEN * (q.count as usize),

@@ -1,35 +1,33 @@
 // Space: how many sectors the volume has, and how many are in use.
-ghost use Rattle.std.specs.Prelude.{◌≡◌, ◌*◌};
-ghost use Rattle.tables.specs.Sector0.{zones_of};
+ghost use Rattle.std.specs.Prelude.{◌≡◌};
 ghost use Rattle.tables.specs.Books.{GoodSome};
-ghost use Rattle.tables.specs.Places.{places_of};
-ghost use Rattle.requests.specs.Space.{used_sectors, Spaced};
+ghost use Rattle.requests.specs.Space.{space_of, Spaced};
 
 use crate::judged::judge;
 use crate::used::used_sectors;
-use examination::check::Checked;
-use tables::places::Places;
+use tables::books::Books;
+use tables::refusal::Refusal;
 use tables::sizes::ZONE;
 
 #[derive(Clone, Copy)]
-pub enum Space {
-    Is(u32, u32),
-    Refused(u32),
+pub struct Space {
+    pub sectors: u32,
+    pub used: u32,
 }
 
-fn measure(b: &[u8], p: Places) -> Space
-    requires { GoodSome b.now p }
-    ensures { result ≡ Space.Is (1024 * zones_of b.now) (used_sectors (places_of b.now) b.now) }
+fn measure(b: &Books<'_>) -> Space
+    requires { GoodSome b.now.raw.now b.now.places }
+    ensures { result ≡ space_of b.now.raw.now }
 {
-    Space::Is(ZONE * p.zones, used_sectors(b, p))
+    Space {
+        sectors: ZONE * b.places.zones,
+        used: used_sectors(b),
+    }
 }
 
-pub fn space_of(b: &[u8], withheld: &[u32]) -> Space
+pub fn space_of(b: &[u8], withheld: &[u32]) -> Result<Space, Refusal>
     ensures { Spaced b.now withheld.now result }
 {
-    let found = judge(b, withheld, 0, 5);
-    match found {
-        Checked::Refused(n) => Space::Refused(n),
-        Checked::Fine(p) => measure(b, p),
-    }
+    let p = judge(b, withheld, 0, Refusal::NotMounted)?;
+    Ok(measure(&Books { raw: b, places: p }))
 }

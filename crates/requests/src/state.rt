@@ -6,6 +6,7 @@ ghost use Rattle.tables.specs.Places.{Layout};
 ghost use Rattle.tables.specs.Views.{view_of, Parent};
 ghost use Rattle.requests.specs.State.{put_state, put_counts, removed, recovered, protection_of, protected};
 
+use tables::books::Books;
 use tables::index::{DIRECTORY, SYSTEM, attribute, put_attribute, put_change_date, table};
 use tables::kinds::Index;
 use tables::places::Places;
@@ -50,7 +51,7 @@ pub fn remove(b: &mut [u8], p: Places, f: Index, date: &[u8])
     requires date_len { length date.now ≡ 6 }
     ensures { b.new ≡ removed p b.old f.0 date.now }
 {
-    let a = attribute(table(b, p, f));
+    let a = attribute(table(&Books { raw: b, places: p }, f));
     let active = sector1::active_files(b) - 1;
     let deleted = sector1::deleted_files(b) + 1;
     let system = sector1::system_files(b) - a / SYSTEM % 2;
@@ -67,7 +68,7 @@ pub fn restore(b: &mut [u8], p: Places, f: Index, date: &[u8])
     requires date_len { length date.now ≡ 6 }
     ensures { b.new ≡ recovered p b.old f.0 date.now }
 {
-    let a = attribute(table(b, p, f));
+    let a = attribute(table(&Books { raw: b, places: p }, f));
     let active = sector1::active_files(b) + 1;
     let deleted = sector1::deleted_files(b) - 1;
     let system = sector1::system_files(b) + a / SYSTEM % 2;
@@ -83,6 +84,6 @@ pub fn protect(b: &mut [u8], p: Places, f: Index, w: u32, date: &[u8])
     requires w_bound { (w ≤ 12) × (length date.now ≡ 6) }
     ensures { b.new ≡ protected p b.old f.0 w date.now }
 {
-    let a = attribute(table(b, p, f));
+    let a = attribute(table(&Books { raw: b, places: p }, f));
     put_state(b, p, f, protection_of(a, w), date);
 }

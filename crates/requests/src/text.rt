@@ -1,75 +1,96 @@
-// Text of the report and of a broken rule: numbers in decimal, lines of a name and a number, written into a lent slice.
-ghost use Rattle.std.specs.Prelude.{◌≡◌, ◌+◌, ◌%◌, ◌≤◌, length};
-ghost use Rattle.requests.specs.Text.{decimal, line_of, Holding, Put};
-ghost use Rattle.requests.specs.Report.{refused_line, as_text};
+// Text of the report and of a broken rule: lines of a name and a number, which stands in decimal.
+ghost use Rattle.std.specs.Prelude.{◌≡◌, ◌+◌, ◌≤◌, [], ◌++◌, length};
+ghost use Rattle.tables.specs.Refusals.{number};
+ghost use Rattle.requests.specs.Text.{decimal, line_of};
+ghost use Rattle.requests.specs.Report.{refused_line};
 
-use crate::report::Text;
-use field::parts::copy;
+use std::marker::Model;
+use tables::refusal::Refusal;
 
-// Ten bytes, the digits of a number at their end, from `at` on.
+// A text of at most 192 bytes, by value.
 #[derive(Clone, Copy)]
-pub struct Digits {
-    pub bytes: [u8; 10],
-    pub at: usize,
+pub struct Text {
+    bytes: [u8; 192],
+    end: usize,
 }
 
-fn digit(n: u32) -> u8
-    ensures { result ≡ 48 + n % 10 }
-{
-    (48 + n % 10) as u8
+// Clauses see the list of its bytes. The invariant has nulls behind them, so that the list tells all 192 (`as_text`).
+impl Model for Text {
+    ghost use Rattle.std.specs.Prelude.{ℕ, List, take};
+
+    ghost Value = { List ℕ };
+
+    ghost use Rattle.requests.specs.Text.{as_text, Filled, text_inverse};
+
+    ghost view = { λ t. take t.end t.bytes };
+
+    ghost invariant = { Filled };
+
+    ghost inverse = { as_text };
+
+    ghost inverse_ok = { text_inverse };
 }
 
-fn to_digits(n: u32) -> Digits
-    ensures { Holding result.bytes result.at n }
-{
-    let mut bytes = [0u8; 10];
-    let mut at: usize = 9;
-    let mut rest = n;
-    while rest >= 10 {
-        bytes[at] = digit(rest);
-        rest = rest / 10;
-        at -= 1;
+impl Text {
+    pub(crate) fn new() -> Text
+        ensures { result ≡ [] }
+    {
+        Text {
+            bytes: [0; 192],
+            end: 0,
+        }
     }
-    bytes[at] = digit(rest);
-    Digits { bytes, at }
-}
 
-// Writes the number from `at` on; answers where it ends.
-fn put_number(s: &mut [u8], at: usize, n: u32) -> usize
-    requires { at + length (decimal n) ≤ length s.old }
-    ensures { Put s.old at (decimal n) s.new result }
-{
-    let d = to_digits(n);
-    let from = d.at;
-    let bytes = d.bytes;
-    copy(s, at, &bytes[from..]);
-    at + (10 - from)
-}
+    pub fn as_bytes(&self) -> &[u8]
+        ensures { (result.now ≡ self.now) × (length result.now ≤ 192) }
+    {
+        &self.bytes[..self.end]
+    }
 
-// Writes a name from `at` on; answers where it ends.
-pub fn put_text(s: &mut [u8], at: usize, name: &[u8]) -> usize
-    requires { at + length name.now ≤ length s.old }
-    ensures { Put s.old at name.now s.new result }
-{
-    copy(s, at, name);
-    at + name.len()
-}
+    pub(crate) fn push_text(&mut self, more: &[u8])
+        requires { length self.old + length more.now ≤ 192 }
+        ensures { self.new ≡ self.old ++ more.now }
+    {
+        let end = self.end + more.len();
+        self.bytes[self.end..end].copy_from_slice(more);
+        self.end = end;
+    }
 
-// Writes a line from `at` on: the name, the number, a line feed; answers where it ends.
-pub fn put_line(s: &mut [u8], at: usize, name: &[u8], n: u32) -> usize
-    requires { at + length (line_of name.now n) ≤ length s.old }
-    ensures { Put s.old at (line_of name.now n) s.new result }
-{
-    let a = put_text(s, at, name);
-    let e = put_number(s, a, n);
-    put_text(s, e, b"\n")
+    // Digits by hand. Tried `write!`: std promises what it writes where it answers Ok, and nowhere that it does. Tried the kit's
+    // itoa: it proves, but the library then needs `memmove` too, and crates beside std.
+    fn push_number(&mut self, n: u32)
+        requires { length self.old + length (decimal n) ≤ 192 }
+        ensures { self.new ≡ self.old ++ decimal n }
+    {
+        let mut digits = [0u8; 10];
+        let mut at = 9;
+        let mut rest = n;
+        // The digits are counted by this loop alone: there is no range to go over.
+        while rest >= 10 {
+            digits[at] = b'0' + (rest % 10) as u8;
+            rest /= 10;
+            at -= 1;
+        }
+        digits[at] = b'0' + rest as u8;
+        self.push_text(&digits[at..]);
+    }
+
+    // A line: the name, the number, a line feed.
+    pub(crate) fn push_line(&mut self, name: &[u8], n: u32)
+        requires { length self.old + length (line_of name.now n) ≤ 192 }
+        ensures { self.new ≡ self.old ++ line_of name.now n }
+    {
+        self.push_text(name);
+        self.push_number(n);
+        self.push_text(b"\n");
+    }
 }
 
 // The one line of a refusal.
-pub fn refused_text(n: u32) -> Text
-    ensures { result ≡ as_text (refused_line n) }
+pub fn refused_text(why: Refusal) -> Text
+    ensures { result ≡ refused_line (number why) }
 {
-    let mut bytes = [0u8; 192];
-    let length = put_line(&mut bytes, 0, b"refused=", n);
-    Text { bytes, length }
+    let mut text = Text::new();
+    text.push_line(b"refused=", why.number());
+    text
 }

@@ -1,29 +1,30 @@
 // Write: the caller's bytes to a file's sectors, from a position on; a variable file first grows.
 ghost use Rattle.std.specs.Prelude.{◌≡◌, ◌+◌, ◌≤◌, ◌<◌, length};
 ghost use Rattle.field.specs.Says.{Says};
+ghost use Rattle.tables.specs.Refusals.{number_of};
 ghost use Rattle.tables.specs.Gates.{Gate};
 ghost use Rattle.tables.specs.Books.{GoodSome};
 ghost use Rattle.tables.specs.Places.{places_of, Layout};
-ghost use Rattle.tables.specs.Views.{view_of, Parent};
+ghost use Rattle.tables.specs.Views.{books_view, view_of, Parent};
 ghost use Rattle.requests.specs.Write.{WriteAllowed, Within, asked_length, move_tests, write_tests, settle, written_books, Writes, Wrote};
 
-use crate::amount::{Amount, number_of};
-use crate::answer::Answer;
-use crate::argument::argument_number;
+use crate::argument::check_argument;
 use crate::body::body_sized;
-use crate::longer::{lack_number, lengthen};
+use crate::longer::{check_lack, lengthen};
 use crate::moving::{end_of, move_allowed, whole_sectors};
-use crate::named::usable_number;
+use crate::named::check_usable;
 use crate::state::put_state;
 use crate::variable::variable_size;
 use files::sectors::write_sectors;
+use tables::books::Books;
 use tables::date::date_valid;
 use tables::index::{WRITE_PROTECTED, WRITING, attribute, table};
 use tables::kinds::Index;
-use tables::places::{Places, read_places};
+use tables::places::read_places;
+use tables::refusal::Refusal;
 use tables::sizes::SECTOR;
 
-fn write_allowed(position: Amount, long: Amount, room: usize, date: &[u8]) -> bool
+fn write_allowed(position: Option<u32>, long: Option<u32>, room: usize, date: &[u8]) -> bool
     ensures { Says result (WriteAllowed position long room date.now) }
 {
     if !move_allowed(position, long, room) {
@@ -33,81 +34,74 @@ fn write_allowed(position: Amount, long: Amount, room: usize, date: &[u8]) -> bo
 }
 
 // May n bytes be written at this position?
-fn within(b: &[u8], p: Places, f: Index, at: u32, n: u32) -> bool
-    requires good_some { GoodSome b.now p }
-    requires parent { Parent (view_of p b.now) f.0 }
+fn within(b: &Books<'_>, f: Index, at: u32, n: u32) -> bool
+    requires good_some { GoodSome b.now.raw.now b.now.places }
+    requires parent { Parent (books_view b.now) f.0 }
     requires at_bound { (at ≤ 2147483647) × (n ≤ 2147483647) }
-    ensures { Says result (Within b.now f.0 at n) }
+    ensures { Says result (Within b.now.raw.now f.0 at n) }
 {
-    let end = end_of(b, p, f);
+    let end = end_of(b, f);
     if at > end {
         return false;
     }
-    if variable_size(b, p, f) {
+    if variable_size(b, f) {
         return true;
     }
     at + n <= end
 }
 
 // The byte length that the write asks for.
-fn asked_length(b: &[u8], p: Places, f: Index, at: u32, n: u32) -> u32
-    requires good_some { GoodSome b.now p }
-    requires parent { Parent (view_of p b.now) f.0 }
+fn asked_length(b: &Books<'_>, f: Index, at: u32, n: u32) -> u32
+    requires good_some { GoodSome b.now.raw.now b.now.places }
+    requires parent { Parent (books_view b.now) f.0 }
     requires n_bound { at + n < 4294967296 }
-    ensures { result ≡ asked_length b.now f.0 at n }
+    ensures { result ≡ asked_length b.now.raw.now f.0 at n }
 {
     if n == 0 {
         return 0;
     }
-    if !variable_size(b, p, f) {
+    if !variable_size(b, f) {
         return 0;
     }
     at + n
 }
 
 // Numbers 8, 9, 10, 14, 12 and 13.
-fn move_number(b: &[u8], p: Places, id: u32, at: u32, n: u32) -> u32
-    requires good_some { GoodSome b.now p }
+fn check_move(b: &Books<'_>, id: u32, at: u32, n: u32) -> Result<(), Refusal>
+    requires good_some { GoodSome b.now.raw.now b.now.places }
     requires at_bound { (at ≤ 2147483647) × (n ≤ 2147483647) }
-    ensures { Gate (move_tests b.now id at n) result }
+    ensures { Gate (move_tests b.now.raw.now id at n) (number_of result) }
 {
-    let m = usable_number(b, p, id, WRITE_PROTECTED);
-    if m != 0 {
-        return m;
-    }
+    check_usable(b, id, WRITE_PROTECTED)?;
     let f = Index(id);
-    if !within(b, p, f, at, n) {
-        return 14;
+    if !within(b, f, at, n) {
+        return Err(Refusal::PastEnd);
     }
-    lack_number(b, p, f, asked_length(b, p, f, at, n))
+    check_lack(b, f, asked_length(b, f, at, n))
 }
 
-fn write_number(
+fn check_write(
     b: &[u8],
     withheld: &[u32],
     body: &[u8],
     id: u32,
-    position: Amount,
-    long: Amount,
+    position: Option<u32>,
+    long: Option<u32>,
     room: usize,
     date: &[u8],
-) -> u32
-    ensures { Gate (write_tests b.now withheld.now body.now id position long room date.now) result }
+) -> Result<(), Refusal>
+    ensures { Gate (write_tests b.now withheld.now body.now id position long room date.now) (number_of result) }
 {
-    let n = argument_number(b, withheld, write_allowed(position, long, room, date));
-    if n != 0 {
-        return n;
-    }
+    check_argument(b, withheld, write_allowed(position, long, room, date))?;
     if !body_sized(b, body) {
-        return 15;
+        return Err(Refusal::WrongBody);
     }
     let p = read_places(b);
-    move_number(
-        b,
-        p,
+    check_move(
+        &Books { raw: b, places: p },
         id,
-        number_of(position),
-        whole_sectors(number_of(long)),
+        position.unwrap_or(0),
+        whole_sectors(long.unwrap_or(0)),
     )
 }
 
@@ -118,7 +112,7 @@ fn settle(b: &mut [u8], f: Index, date: &[u8])
     ensures { b.new ≡ settle b.old f.0 date.now }
 {
     let p = read_places(b);
-    let a = attribute(table(b, p, f));
+    let a = attribute(table(&Books { raw: b, places: p }, f));
     put_state(b, p, f, a - a / WRITING % 2 * WRITING, date);
 }
 
@@ -130,7 +124,7 @@ fn put_written(b: &mut [u8], f: Index, at: u32, n: u32, date: &[u8])
     ensures { b.new ≡ written_books b.old f.0 at n date.now }
 {
     let p = read_places(b);
-    let long = asked_length(b, p, f, at, n);
+    let long = asked_length(&Books { raw: b, places: p }, f, at, n);
     lengthen(b, f, long, date);
     settle(b, f, date);
 }
@@ -140,28 +134,25 @@ pub fn write(
     withheld: &[u32],
     body: &mut [u8],
     id: u32,
-    position: Amount,
-    long: Amount,
+    position: Option<u32>,
+    long: Option<u32>,
     exchange: bool,
     input: &[u8],
     date: &[u8],
-) -> Answer
+) -> Result<u32, Refusal>
     ensures { Wrote b.old withheld.now body.old id position long exchange input.now date.now result b.new body.new }
 {
-    let m = write_number(b, withheld, body, id, position, long, input.len(), date);
-    if m != 0 {
-        return Answer::Refused(m);
-    }
-    let at = number_of(position);
-    let n = whole_sectors(number_of(long));
+    check_write(b, withheld, body, id, position, long, input.len(), date)?;
+    let at = position.unwrap_or(0);
+    let n = whole_sectors(long.unwrap_or(0));
     if n == 0 {
-        return Answer::Done(0);
+        return Ok(0);
     }
     let f = Index(id);
     put_written(b, f, at, n, date);
+    let p = read_places(b);
     write_sectors(
-        b,
-        read_places(b),
+        &Books { raw: b, places: p },
         f,
         at / SECTOR,
         n / SECTOR,
@@ -169,5 +160,5 @@ pub fn write(
         input,
         body,
     );
-    Answer::Done(n)
+    Ok(n)
 }

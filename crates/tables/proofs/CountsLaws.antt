@@ -1,5 +1,6 @@
 -- Counts per zone type: one step of them, the loop over the six types, and what the counts are good for: they supply the file's bytes, with
 -- less than one block of the last chosen type to spare, and take no block of a type that is not chosen.
+use Rattle.std.specs.Prelude.{Option, Some, None}
 use mathlib.Core.Path.{◌≡◌, refl, sym, ◌∙◌, ap}
 use mathlib.Core.Bool.{Bool, true, false, cond}
 use mathlib.Core.List.{List, [], ◌++◌, append-nil}
@@ -18,8 +19,6 @@ use mir.Val.{to_z, of_z, SFits, Fits}
 use mir.ValLaws.{to_z-of_z}
 use mir.Syntax.{w32}
 use borrow.Author.Tests.{eq-eqb, ne_eqb, le-leb, lt-leb, ltb-true, eqb-true, eqb-false}
-use Rattle.tables.specs.declared.counts.Chosen.{Chosen}
-use Rattle.tables.specs.declared.counts.Chosen.TheVariants.{Types, Bad}
 use Rattle.tables.specs.Blocks.{DataType, block_of, Block}
 use Rattle.tables.specs.Rules.R1.{ceil}
 use Rattle.tables.specs.Counts.{types_of, chosen_types, weight_of, block_bytes, is_chosen, none_below, share_count, share_rest, counts_down, counts_of, supplied_by, Countable, Shared}
@@ -95,21 +94,21 @@ step flag t rest P none last part = go (is_chosen flag t) (none_below flag t) no
 -- ---- the flag byte, as the code meets it
 
 module _ (z : ℤ) (fits : SFits w32 z) where
-  pub flag_default : of_z w32 z ≡ 4294967295 → Types 252 ≡ chosen_types z
+  pub flag_default : of_z w32 z ≡ 4294967295 → Some 252 ≡ chosen_types z
   unfolding chosen_types
   flag_default = go z fits
     where
-      go : (z : ℤ) → SFits w32 z → of_z w32 z ≡ 4294967295 → Types 252 ≡ chosen_types z
+      go : (z : ℤ) → SFits w32 z → of_z w32 z ≡ 4294967295 → Some 252 ≡ chosen_types z
       go (pos n) f e = absurd (omega (arith, f.sfits))
-      go (negsuc n) f e = eq_yes n 0 (Types 252) Bad (omega (arith, f.sfits)) refl
+      go (negsuc n) f e = eq_yes n 0 (Some 252) None (omega (arith, f.sfits)) refl
 
-  pub flag_below : (of_z w32 z ≡ 4294967295 → ⊥) → lt_z (to_z w32 (of_z w32 z)) (pos 0) ≡ true → Bad ≡ chosen_types z
+  pub flag_below : (of_z w32 z ≡ 4294967295 → ⊥) → lt_z (to_z w32 (of_z w32 z)) (pos 0) ≡ true → None ≡ chosen_types z
   unfolding chosen_types
   flag_below ne h = go z ne (rw (to_z-of_z w32 z fits) at h)
     where
-      go : (z : ℤ) → (of_z w32 z ≡ 4294967295 → ⊥) → lt_z z (pos 0) ≡ true → Bad ≡ chosen_types z
+      go : (z : ℤ) → (of_z w32 z ≡ 4294967295 → ⊥) → lt_z z (pos 0) ≡ true → None ≡ chosen_types z
       go (pos n) ne h = absurd (omega (arith, ltb-true n 0 h))
-      go (negsuc n) ne h = eq_no n 0 (Types 252) Bad (λ e. ne (omega arith)) refl
+      go (negsuc n) ne h = eq_no n 0 (Some 252) None (λ e. ne (omega arith)) refl
 
   pub flag_cast : lt_z (to_z w32 (of_z w32 z)) (pos 0) ≡ false → T (non_neg (to_z w32 (of_z w32 z))) × Fits w32 (nat_abs (to_z w32 (of_z w32 z)))
   flag_cast h = let e = to_z-of_z w32 z fits in rw e (go z fits (rw e at h))
@@ -118,7 +117,7 @@ module _ (z : ℤ) (fits : SFits w32 z) where
       go (pos n) f h = (tt, record { fits = omega (arith, f.sfits) })
       go (negsuc n) f h = no_true h
 
-  pub flag_sum : (r : Chosen) → lt_z (to_z w32 (of_z w32 z)) (pos 0) ≡ false → r ≡ types_of (nat_abs (to_z w32 (of_z w32 z))) → r ≡ chosen_types z
+  pub flag_sum : (r : Option ℕ) → lt_z (to_z w32 (of_z w32 z)) (pos 0) ≡ false → r ≡ types_of (nat_abs (to_z w32 (of_z w32 z))) → r ≡ chosen_types z
   unfolding chosen_types
   flag_sum r h q = let e = to_z-of_z w32 z fits in (rw e at q) ∙ go z (rw e at h)
     where

@@ -1,16 +1,14 @@
 -- The zones that a type lacks: a law for each way out of what counts them.
-use mathlib.Core.Path.{◌≡◌, refl, sym, ap, ap₂, ◌∙◌}
+use mathlib.Core.Path.{◌≡◌, refl, sym, ap, ◌∙◌}
 use mathlib.Core.Bool.{Bool, true, false, cond}
 use Prim.Native.Nat.{ℕ, zero, suc, ◌+◌, ◌-◌, ◌*◌, ◌/◌, ◌≤◌, ◌<◌}
 use native.Mathlib.Nat.{div-eq_of_lt, div-le_self}
 use native.Mathlib.Omega.{arith}
 use mathlib.Core.List.{List}
 use lib.Dec.{eqb, leb}
-use lib.ListN.{get_or}
 use borrow.Author.Tests.{eq-eqb, ne_eqb, leb-true, leb-false}
 use Rattle.field.specs.Says.{Says}
 use Rattle.field.specs.Sum.{sum_to}
-use Rattle.field.proofs.Sums.{sum_more}
 use Rattle.tables.proofs.BlockLaws.{data_block}
 use Rattle.tables.specs.declared.zone.ZoneEntry.{ZoneEntry}
 use Rattle.tables.specs.Blocks.{DataType, block_of, per_zone}
@@ -79,11 +77,6 @@ lack_most t n f per h l = omega (arith, div-le_self (n - f + (per - 1)) per, div
 -- ---- the six types, one after the other
 
 module _ (v : View) (counts : List ℕ) (n i : ℕ) (is : n ≡ sum_to i (λ i. lack_of v (i + 3) (count_at counts (i + 3)))) where
-  pub lacks_more : (r : ℕ) → r ≡ lack_of v (i + 3) (get_or counts (5 - i) 0) → n + r ≡ sum_to (i + 1) (λ i. lack_of v (i + 3) (count_at counts (i + 3)))
-  lacks_more r e =
-      let q : 5 - i ≡ 8 - (i + 3) = omega arith in
-      ap₂ (λ (x y : ℕ). x + y) is (e ∙ ap (λ (k : ℕ). lack_of v (i + 3) (get_or counts k 0)) q) ∙ sym (sum_more i (λ i. lack_of v (i + 3) (count_at counts (i + 3))))
-
   pub lacks_say : (o : ℕ) → i ≡ 6 → o ≡ open_zones v → Says (leb n o) (Enough v (count_at counts))
   lacks_say o six e = go (leb n o) refl
     where

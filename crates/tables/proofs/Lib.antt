@@ -17,6 +17,8 @@ pub mod CountsLaws
 pub mod FlagCards
 pub mod LackLaws
 pub mod ChoiceLaws
+pub mod RangeLaws
+pub mod RefusalLaws
 pub mod RoomLaws
 pub mod WithheldLaws
 pub mod TotalLaws

@@ -23,9 +23,6 @@ module _ (f : List ℕ) (n : ℕ) (full : length f ≡ 24) (t : Text f n) where
         ]
       ]
 
-  pub not_name : n ≡ 0 → Name f → ⊥
-  not_name e m = omega (arith, name_long m, m.some)
-
   -- what follows the text decides
   pub name_says : (r : Bool) → (n ≡ 0 → ⊥) → Says r (AllBytes f n (24 - n) 0) → Says r (Name f)
   name_says r some = says_map r to from

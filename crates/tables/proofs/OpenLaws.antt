@@ -1,14 +1,13 @@
 -- Open zones: what a zone's entry says, test by test, and their count.
 use mathlib.Core.Path.{◌≡◌}
 use mathlib.Core.Logic.{◌≢◌}
-use mathlib.Core.Bool.{Bool, true, false}
+use mathlib.Core.Bool.{true, false}
 use Prim.Native.Nat.{ℕ}
 use native.Mathlib.Omega.{arith}
 use lib.Dec.{eqb}
 use borrow.Author.Tests.{eq-eqb, ne_eqb}
 use Rattle.tables.specs.declared.zone.ZoneEntry.{ZoneEntry}
 use Rattle.tables.specs.Blocks.{ZoneType, per_zone}
-use Rattle.tables.specs.Views.{only_if}
 use Rattle.tables.specs.Open.{is_open}
 use Rattle.tables.proofs.BlockLaws.{zone_type, no_zone_type}
 
@@ -24,12 +23,3 @@ module _ (e : ZoneEntry) where
   pub open_typed : (n : ℕ) → ZoneType e.ztype → n ≡ per_zone e.ztype → eqb e.free n ≡ is_open e
   unfolding is_open
   open_typed n h q = rw (ne_eqb e.ztype 0 (λ z. omega (arith, h.low)), zone_type e.ztype h, q)
-
--- one more where the test holds
-pub one_if : (t r : Bool) → r ≡ t → r ≡ true → 1 ≡ only_if t 1
-unfolding only_if
-one_if t r e h = rw (← e, h)
-
-pub none_if : (t r : Bool) → r ≡ t → r ≡ false → 0 ≡ only_if t 1
-unfolding only_if
-none_if t r e h = rw (← e, h)

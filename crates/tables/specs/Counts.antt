@@ -1,20 +1,18 @@
 -- "Counts per zone type. The flag byte of create fixed is -1 or 0 (default: all six), or any sum of 4 (C), 8, 16, 32, 64, 128 (H); others are
 -- 7. From the largest chosen type down: quotient by the block's bytes, remainder passed on; at the last chosen type round up."
-use Rattle.std.specs.Prelude.{◌≡◌, Bool, cond, List, [], ◌∷◌, ℕ, zero, suc, ◌+◌, ◌-◌, ◌*◌, ◌/◌, ◌%◌, ◌^◌, ◌≤◌, eqb, leb, length, ℤ, pos, negsuc}
-use Rattle.tables.specs.declared.counts.Chosen.{Chosen}
-use Rattle.tables.specs.declared.counts.Chosen.TheVariants.{Types, Bad}
+use Rattle.std.specs.Prelude.{◌≡◌, Option, Some, None, Bool, cond, List, [], ◌∷◌, ℕ, zero, suc, ◌+◌, ◌-◌, ◌*◌, ◌/◌, ◌%◌, ◌^◌, ◌≤◌, eqb, leb, length, ℤ, pos, negsuc}
 use Rattle.tables.specs.Blocks.{type_at, block_of}
 use Rattle.tables.specs.Rules.R1.{ceil}
 
 -- "0 (default: all six), or any sum of 4 (C), 8, 16, 32, 64, 128 (H)": the sums are the multiples of 4 up to 252, all six weights together
-unfoldable pub types_of : ℕ → Chosen
-types_of n = cond (eqb n 0) (Types 252) (cond (eqb (n % 4) 0) (cond (leb n 252) (Types n) Bad) Bad)
+unfoldable pub types_of : ℕ → Option ℕ
+types_of n = cond (eqb n 0) (Some 252) (cond (eqb (n % 4) 0) (cond (leb n 252) (Some n) None) None)
 
 -- "The flag byte of create fixed is -1 or 0 (default: all six)": of the numbers below 0 only -1, which is `negsuc 0`
-unfoldable pub chosen_types : ℤ → Chosen
+unfoldable pub chosen_types : ℤ → Option ℕ
 unfolding types_of
 chosen_types (pos n) = types_of n
-chosen_types (negsuc n) = cond (eqb n 0) (Types 252) Bad
+chosen_types (negsuc n) = cond (eqb n 0) (Some 252) None
 
 -- "4 (C), 8, 16, 32, 64, 128 (H)": the weight of type t
 unfoldable pub weight_of : ℕ → ℕ

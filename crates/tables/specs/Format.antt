@@ -4,6 +4,7 @@ use Rattle.std.specs.Prelude.{ℕ, zero, suc, ◌+◌, ◌-◌, ◌*◌, ◌≤�
 use Rattle.field.specs.Numbers.{put_u32}
 use Rattle.field.specs.Parts.{over}
 use Rattle.tables.specs.declared.places.Places.{Places}
+use Rattle.tables.specs.declared.label.Label.{Label as Passed}
 use Rattle.tables.specs.Dates.{Date}
 use Rattle.tables.specs.Sector0.{put_mark, put_version, put_application, put_volume_name, put_volume_id, put_owner, put_owner_code, put_initialized, put_zones, put_sectors_per_zone, put_bytes_per_sector, put_zone_start, put_sector_start, put_index_start, put_index_size}
 use Rattle.tables.specs.Sector1.{put_indexes, put_free, put_latest, put_first_free}
@@ -18,6 +19,10 @@ pub record Label : Type 0 where
   pub owner : List ℕ
   pub code : List ℕ
   pub date : List ℕ
+
+-- the label that a caller passes on by reference
+abbrev pub label_of : Passed → Label
+label_of l = record { application = l.application.now; volume = l.volume.now; id = l.id; owner = l.owner.now; code = l.code.now; date = l.date.now }
 
 -- "tables from sector 2 on without gaps"
 abbrev pub fresh_places : ℕ → ℕ → Places

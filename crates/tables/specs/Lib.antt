@@ -1,4 +1,5 @@
 pub mod Kinds
+pub mod Refusals
 pub mod Sector0
 pub mod Sector1
 pub mod Places

@@ -3,6 +3,7 @@
 -- Zones are numbered 1 to Z, sectors 0 to 1024 Z - 1, index tables 1 to N; what the functions say of other numbers means nothing.
 use Rattle.std.specs.Prelude.{◌≡◌, Bool, cond, ℕ, zero, suc, ◌+◌, ◌≤◌, ◌<◌, List, eqb, leb, ltb}
 use Rattle.field.specs.Sum.{sum_to}
+use Rattle.tables.specs.declared.books.Books.{Books}
 use Rattle.tables.specs.declared.places.Places.{Places}
 use Rattle.tables.specs.declared.zone.ZoneEntry.{ZoneEntry}
 use Rattle.tables.specs.Sector1.{active_of, deleted_of, free_of, system_of, directory_of, first_free_of, flag_of}
@@ -40,6 +41,10 @@ view_of p b = record {
   head = first_free_of b;
   flag = flag_of b;
 }
+
+-- of books that are lent with the places of their tables
+abbrev pub books_view : Books → View
+books_view b = view_of b.places b.raw.now
 
 -- ---- index tables by what they begin with
 

@@ -1,4 +1,5 @@
-// Blocks: the sectors that a zone of a type gives out together.
+// Blocks: the sectors that a zone of a type gives out together. A type is a number here, as the books have it: sizes and weights are reckoned
+// from it, and an enum would be turned back into it at each use.
 ghost use Rattle.std.specs.Prelude.{◌≡◌};
 ghost use Rattle.field.specs.Says.{Says};
 ghost use Rattle.tables.specs.Blocks.{ZoneType, DataType, block_of, per_zone, Block};
@@ -16,26 +17,14 @@ const HIGHEST: u32 = 8;
 pub fn is_zone_type(t: u32) -> bool
     ensures { Says result (ZoneType t) }
 {
-    if t < HEADER_TYPE {
-        return false;
-    }
-    if t > HIGHEST {
-        return false;
-    }
-    true
+    (HEADER_TYPE..=HIGHEST).contains(&t)
 }
 
 // Do files lie in zones of type t?
 pub fn is_data_type(t: u32) -> bool
     ensures { Says result (DataType t) }
 {
-    if t < LOWEST {
-        return false;
-    }
-    if t > HIGHEST {
-        return false;
-    }
-    true
+    (LOWEST..=HIGHEST).contains(&t)
 }
 
 // The sectors of a block of a zone of type t.

@@ -6,12 +6,8 @@ ghost use Rattle.tables.specs.Counts.{types_of, chosen_types, weight_of, block_b
 use crate::blocks::block_sectors;
 use crate::sizes::SECTOR;
 
-// The zone types that a flag byte chooses, as the sum of their weights, or a flag byte that is not allowed.
-#[derive(Clone, Copy)]
-pub enum Chosen {
-    Types(u32),
-    Bad,
-}
+// The weights of all six types.
+const ALL: u32 = 252;
 
 // A type's count, and the bytes that are left to the smaller types.
 #[derive(Clone, Copy)]
@@ -21,30 +17,30 @@ struct Share {
 }
 
 // The types of a flag byte from 0 on.
-fn types_of(n: u32) -> Chosen
+fn types_of(n: u32) -> Option<u32>
     ensures { result ≡ types_of n }
 {
     if n == 0 {
-        return Chosen::Types(252);
+        return Some(ALL);
     }
     if n % 4 != 0 {
-        return Chosen::Bad;
+        return None;
     }
-    if n > 252 {
-        return Chosen::Bad;
+    if n > ALL {
+        return None;
     }
-    Chosen::Types(n)
+    Some(n)
 }
 
-// The types that a flag byte chooses.
-pub fn chosen_types(flag: i32) -> Chosen
+// The zone types that a flag byte chooses, as the sum of their weights; none where it is not allowed.
+pub fn chosen_types(flag: i32) -> Option<u32>
     ensures { result ≡ chosen_types flag }
 {
     if flag == -1 {
-        return Chosen::Types(252);
+        return Some(ALL);
     }
     if flag < 0 {
-        return Chosen::Bad;
+        return None;
     }
     types_of(flag as u32)
 }
@@ -94,12 +90,10 @@ pub fn counts(flag: u32, size: u32) -> [u32; 6]
 {
     let mut c = [0u32; 6];
     let mut rest = size;
-    let mut i = 0;
-    while i < 6 {
+    for i in 0..6 {
         let s = share_of(flag, 8 - i as u32, rest);
         c[i] = s.count;
         rest = s.rest;
-        i += 1;
     }
     c
 }

@@ -7,35 +7,10 @@ use field::numbers::get_u16;
 pub fn date_valid(d: &[u8]) -> bool
     ensures { Says result (Date d.now) }
 {
-    if d.len() != 6 {
-        return false;
-    }
-    let year = get_u16(d, 0);
-    if year < 1 {
-        return false;
-    }
-    if year > 9999 {
-        return false;
-    }
-    let month = d[2];
-    if month < 1 {
-        return false;
-    }
-    if month > 12 {
-        return false;
-    }
-    let day = d[3];
-    if day < 1 {
-        return false;
-    }
-    if day > 31 {
-        return false;
-    }
-    if d[4] > 23 {
-        return false;
-    }
-    if d[5] > 59 {
-        return false;
-    }
-    true
+    d.len() == 6
+        && (1..=9999).contains(&get_u16(d, 0))
+        && (1..=12).contains(&d[2])
+        && (1..=31).contains(&d[3])
+        && d[4] <= 23
+        && d[5] <= 59
 }

@@ -1,22 +1,21 @@
 // A decoded table entry: free, a parent with its fixed or variable kind, or a child.
 ghost use Rattle.std.specs.Prelude.{◌≡◌, ◌≤◌, length};
-ghost use Rattle.tables.specs.Places.{Layout};
 ghost use Rattle.tables.specs.Indexes.{table_at};
 ghost use Rattle.tables.specs.Entries.{size_of, kind_of, entry_of};
 
+use crate::books::Books;
 use crate::index;
 use crate::kinds::Index;
-use crate::places::Places;
 
 // Attribute weight 16: the file grows.
-#[derive(Clone, Copy)]
+#[derive(Clone, Copy, PartialEq, Eq)]
 pub enum Size {
     Fixed,
     Variable,
 }
 
 // Broken: it begins with none of the three words that rule R4 allows.
-#[derive(Clone, Copy)]
+#[derive(Clone, Copy, PartialEq, Eq)]
 pub enum Kind {
     Free,
     Parent(Size),
@@ -69,10 +68,9 @@ fn entry_of(i: Index, t: &[u8]) -> Entry
 }
 
 // Index table i of the books, decoded.
-pub fn decode(b: &[u8], p: Places, i: Index) -> Entry
-    requires layout { Layout p (length b.now) }
-    requires le_i { (1 ≤ i.0) × (i.0 ≤ p.indexes) }
-    ensures { result ≡ entry_of i.0 (table_at p b.now i.0) }
+pub fn decode(b: &Books<'_>, i: Index) -> Entry
+    requires le_i { (1 ≤ i.0) × (i.0 ≤ b.now.places.indexes) }
+    ensures { result ≡ entry_of i.0 (table_at b.now.places b.now.raw.now i.0) }
 {
-    entry_of(i, index::table(b, p, i))
+    entry_of(i, index::table(b, i))
 }

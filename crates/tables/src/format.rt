@@ -1,11 +1,12 @@
 // Format: empty books for a volume of given sizes and label. One function a part of the definition `formatted`.
 ghost use Rattle.std.specs.Prelude.{◌≡◌, ◌-◌, ◌≤◌, length, replicate};
 ghost use Rattle.tables.specs.Places.{Layout};
-ghost use Rattle.tables.specs.Format.{Formattable, Writable, fresh_places, put_system_zones, put_links, formatted};
+ghost use Rattle.tables.specs.Format.{Formattable, Writable, label_of, fresh_places, put_system_zones, put_links, formatted};
 
 use crate::fresh::{write_sector0, write_status};
 use crate::index::LINK;
 use crate::kinds::Zone;
+use crate::label::Label;
 use crate::places::Places;
 use crate::sizes::{ENTRY_LEN, ROUND_UP_LEN, SECTOR_LEN, TABLE_LEN, ZONE_BITS};
 use crate::zone::put_zone;
@@ -20,8 +21,8 @@ pub fn fresh_places(zones: u32, indexes: u32) -> Places
     let zonebytes = SECTOR_LEN * ((ENTRY_LEN * (zones as usize) + ROUND_UP_LEN) / SECTOR_LEN);
     let sectorbytes = SECTOR_LEN * ((zones as usize + 7) / 8);
     Places {
-        zones: zones,
-        indexes: indexes,
+        zones,
+        indexes,
         zonetable: 2048,
         sectortable: 2048 + zonebytes,
         indextable: 2048 + zonebytes + sectorbytes,
@@ -57,11 +58,8 @@ fn write_links(b: &mut [u8], p: Places)
     requires { Layout p (length b.old) }
     ensures { b.new ≡ put_links p b.old (p.indexes - 1) }
 {
-    let last = p.indexes - 1;
-    let mut k: u32 = 0;
-    while k < last {
+    for k in 0..p.indexes - 1 {
         put_u32(b, p.indextable + TABLE_LEN * (k as usize) + LINK, k + 2);
-        k += 1;
     }
 }
 
@@ -76,24 +74,14 @@ fn write_tables(b: &mut [u8], zones: u32, indexes: u32)
 }
 
 // Formats the books. The caller has seen that the sizes are allowed and the label fits its fields.
-pub fn write_format(
-    b: &mut [u8],
-    zones: u32,
-    indexes: u32,
-    application: &[u8],
-    volume: &[u8],
-    id: u32,
-    owner: &[u8],
-    code: &[u8],
-    date: &[u8],
-)
+pub fn write_format(b: &mut [u8], zones: u32, indexes: u32, label: &Label<'_>)
     requires formattable { Formattable (length b.old) zones indexes }
     requires in_bounds { (5120 ≤ length b.old) × (length b.old ≤ 1048576) }
-    requires writable { Writable (record { application = application.now; volume = volume.now; id = id; owner = owner.now; code = code.now; date = date.now }) }
-    ensures { b.new ≡ formatted (length b.old) zones indexes (record { application = application.now; volume = volume.now; id = id; owner = owner.now; code = code.now; date = date.now }) }
+    requires writable { Writable (label_of label.now) }
+    ensures { b.new ≡ formatted (length b.old) zones indexes (label_of label.now) }
 {
     zero_books(b);
-    write_sector0(b, zones, application, volume, id, owner, code, date);
-    write_status(b, indexes, date);
+    write_sector0(b, zones, label);
+    write_status(b, indexes, label.date);
     write_tables(b, zones, indexes);
 }

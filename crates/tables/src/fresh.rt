@@ -1,46 +1,24 @@
 // Format's first step: sectors 0 and 1 of fresh books, what the volume is and that it is empty.
 ghost use Rattle.std.specs.Prelude.{◌≡◌, ◌≤◌, length};
-ghost use Rattle.tables.specs.Format.{Writable, put_titles, put_owned, put_label, put_identity, put_sizes, put_starts, put_status};
+ghost use Rattle.tables.specs.Format.{Writable, label_of, put_label, put_identity, put_sizes, put_starts, put_status};
 
 use crate::kinds::Index;
+use crate::label::Label;
 use crate::sizes::{ENTRY, ROUND_UP, SECTOR, TABLE, ZONE};
 use crate::{sector0, sector1};
 
-fn write_names(b: &mut [u8], application: &[u8], volume: &[u8], id: u32)
+// The texts, the id and the date.
+fn write_label(b: &mut [u8], label: &Label<'_>)
     requires in_bounds { 2048 ≤ length b.old }
-    requires application_len_bound { (length application.now ≤ 16) × (length volume.now ≤ 32) }
-    ensures { b.new ≡ put_titles b.old application.now volume.now id }
+    requires writable { Writable (label_of label.now) }
+    ensures { b.new ≡ put_label b.old (label_of label.now) }
 {
-    sector0::put_application(b, application);
-    sector0::put_volume_name(b, volume);
-    sector0::put_volume_id(b, id);
-}
-
-fn write_owner(b: &mut [u8], owner: &[u8], code: &[u8], date: &[u8])
-    requires in_bounds { 2048 ≤ length b.old }
-    requires owner_len_bound { (length owner.now ≤ 32) × (length code.now ≤ 32) × (length date.now ≡ 6) }
-    ensures { b.new ≡ put_owned b.old owner.now code.now date.now }
-{
-    sector0::put_owner(b, owner);
-    sector0::put_owner_code(b, code);
-    sector0::put_initialized(b, date);
-}
-
-fn write_label(
-    b: &mut [u8],
-    application: &[u8],
-    volume: &[u8],
-    id: u32,
-    owner: &[u8],
-    code: &[u8],
-    date: &[u8],
-)
-    requires in_bounds { 2048 ≤ length b.old }
-    requires writable { Writable (record { application = application.now; volume = volume.now; id = id; owner = owner.now; code = code.now; date = date.now }) }
-    ensures { b.new ≡ put_label b.old (record { application = application.now; volume = volume.now; id = id; owner = owner.now; code = code.now; date = date.now }) }
-{
-    write_names(b, application, volume, id);
-    write_owner(b, owner, code, date);
+    sector0::put_application(b, label.application);
+    sector0::put_volume_name(b, label.volume);
+    sector0::put_volume_id(b, label.id);
+    sector0::put_owner(b, label.owner);
+    sector0::put_owner_code(b, label.code);
+    sector0::put_initialized(b, label.date);
 }
 
 // The mark "IS&C" and the version "01.0".
@@ -77,22 +55,13 @@ fn write_starts(b: &mut [u8], zones: u32)
 }
 
 // Sector 0.
-pub fn write_sector0(
-    b: &mut [u8],
-    zones: u32,
-    application: &[u8],
-    volume: &[u8],
-    id: u32,
-    owner: &[u8],
-    code: &[u8],
-    date: &[u8],
-)
+pub fn write_sector0(b: &mut [u8], zones: u32, label: &Label<'_>)
     requires in_bounds { 2048 ≤ length b.old }
     requires zones_bound { zones ≤ 256 }
-    requires writable { Writable (record { application = application.now; volume = volume.now; id = id; owner = owner.now; code = code.now; date = date.now }) }
-    ensures { b.new ≡ put_starts (put_sizes (put_label b.old (record { application = application.now; volume = volume.now; id = id; owner = owner.now; code = code.now; date = date.now })) zones) zones }
+    requires writable { Writable (label_of label.now) }
+    ensures { b.new ≡ put_starts (put_sizes (put_label b.old (label_of label.now)) zones) zones }
 {
-    write_label(b, application, volume, id, owner, code, date);
+    write_label(b, label);
     write_limits(b, zones);
     write_starts(b, zones);
 }

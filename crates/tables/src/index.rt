@@ -1,9 +1,11 @@
 // An index table of 128 bytes: a reader and a writer for each of its fields.
+// Each function names a field of the paper by its place and width; the generic readers and writers are the crate field's.
 ghost use Rattle.std.specs.Prelude.{◌≡◌, ◌+◌, ◌≤◌, ◌<◌, length};
 ghost use Rattle.field.specs.Numbers.{u32_at};
 ghost use Rattle.tables.specs.Places.{Layout};
 ghost use Rattle.tables.specs.Indexes.{table_place, table_at, erased, word_of, put_word, parent_of, put_parent, name_of, put_name, created_of, put_created, changed_of, put_changed, length_of, put_length, attribute_of, put_attribute, link_of, put_link, pointer_at, put_pointer, minus, slots_of, base_of, pointer_place, file_of};
 
+use crate::books::Books;
 use crate::kinds::{Index, Sector};
 use crate::places::Places;
 use crate::sizes::TABLE_LEN;
@@ -37,7 +39,7 @@ pub const DIRECTORY: u32 = 32;
 pub const SYSTEM: u32 = 64;
 
 // A run of sectors: the first, and how many.
-#[derive(Clone, Copy)]
+#[derive(Clone, Copy, PartialEq, Eq)]
 pub struct Pointer {
     pub start: Sector,
     pub count: u32,
@@ -52,14 +54,13 @@ fn table_place(p: Places, i: Index) -> usize
 }
 
 // The 128 bytes of index table i.
-pub fn table<'a>(b: &'a [u8], p: Places, i: Index) -> &'a [u8]
-    requires layout { Layout p (length b.now) }
-    requires le_i { (1 ≤ i.0) × (i.0 ≤ p.indexes) }
-    ensures { (result.now ≡ table_at p b.now i.0) × (length result.now ≡ 128) }
+pub fn table<'a>(b: &Books<'a>, i: Index) -> &'a [u8]
+    requires le_i { (1 ≤ i.0) × (i.0 ≤ b.now.places.indexes) }
+    ensures { (result.now ≡ table_at b.now.places b.now.raw.now i.0) × (length result.now ≡ 128) }
 {
-    let at = p.indextable + TABLE_LEN * (i.0 as usize - 1);
+    let at = b.places.indextable + TABLE_LEN * (i.0 as usize - 1);
     let end = at + TABLE_LEN;
-    &b[at..end]
+    &b.raw[at..end]
 }
 
 // Makes its first n bytes null.

@@ -5,15 +5,15 @@ ghost use Rattle.tables.specs.Kinds.{zone_of, first_of};
 use crate::sizes::ZONE;
 
 // A sector of the volume, from 0 on.
-#[derive(Clone, Copy)]
+#[derive(Clone, Copy, PartialEq, Eq, PartialOrd, Ord)]
 pub struct Sector(pub u32);
 
 // A zone of 1,024 sectors, from 1 on.
-#[derive(Clone, Copy)]
+#[derive(Clone, Copy, PartialEq, Eq, PartialOrd, Ord)]
 pub struct Zone(pub u32);
 
-// An index table, from 1 on; 0 is none.
-#[derive(Clone, Copy)]
+// An index table, from 1 on; 0 is none, as it ends a chain in the books. That the books have it is a fact about both, so readers ask for it.
+#[derive(Clone, Copy, PartialEq, Eq, PartialOrd, Ord)]
 pub struct Index(pub u32);
 
 // The zone that holds a sector.

@@ -2,6 +2,7 @@
 #![tactic(auto)]
 
 pub mod blocks;
+pub mod books;
 pub mod counts;
 pub mod date;
 pub mod entry;
@@ -11,9 +12,11 @@ mod fresh;
 pub mod index;
 pub mod kind;
 pub mod kinds;
+pub mod label;
 pub mod name;
 pub mod open;
 pub mod places;
+pub mod refusal;
 pub mod room;
 pub mod sector;
 pub mod sector0;

@@ -12,14 +12,7 @@ pub const NAME: usize = 24;
 pub fn text_length(f: &[u8]) -> usize
     ensures { Text f.now result }
 {
-    let mut i: usize = 0;
-    while i < f.len() {
-        if f[i] == 0 {
-            return i;
-        }
-        i += 1;
-    }
-    i
+    f.iter().position(|c| *c == 0).unwrap_or(f.len())
 }
 
 // Is the field of 24 bytes a name: some bytes that are not null, then nulls?
@@ -28,42 +21,19 @@ pub fn name_valid(f: &[u8]) -> bool
     ensures { Says result (Name f.now) }
 {
     let n = text_length(f);
-    if n == 0 {
-        return false;
-    }
-    bytes_all(f, n, NAME - n, 0)
+    n != 0 && bytes_all(f, n, NAME - n, 0)
 }
 
 // Is no byte null, '*' or '?'?
 fn text_allowed(n: &[u8]) -> bool
     ensures { Says result (NewText n.now) }
 {
-    let mut i: usize = 0;
-    while i < n.len() {
-        let c = n[i];
-        if c == 0 {
-            return false;
-        }
-        if c == b'*' {
-            return false;
-        }
-        if c == b'?' {
-            return false;
-        }
-        i += 1;
-    }
-    true
+    n.iter().all(|c| !matches!(*c, 0 | b'*' | b'?'))
 }
 
 // May a file be created under this name?
 pub fn new_name_valid(n: &[u8]) -> bool
     ensures { Says result (NewName n.now) }
 {
-    if n.len() < 1 {
-        return false;
-    }
-    if n.len() > NAME {
-        return false;
-    }
-    text_allowed(n)
+    (1..=NAME).contains(&n.len()) && text_allowed(n)
 }

@@ -2,14 +2,13 @@
 ghost use Rattle.std.specs.Prelude.{◌≡◌, ◌≤◌, length};
 ghost use Rattle.field.specs.Says.{Says};
 ghost use Rattle.tables.specs.Blocks.{DataType};
-ghost use Rattle.tables.specs.Places.{Layout};
-ghost use Rattle.tables.specs.Views.{view_of};
+ghost use Rattle.tables.specs.Views.{books_view};
 ghost use Rattle.tables.specs.Room.{count_at, spare_in, spare_of, lack_of, Enough};
 
 use crate::blocks::zone_blocks;
+use crate::books::Books;
 use crate::kinds::Zone;
 use crate::open::{is_open, open_zones};
-use crate::places::Places;
 use crate::zone::{ZoneEntry, zone_entry};
 
 // The free blocks that a zone has for type t, unless it is open. Full zones and zones of other types, of which
@@ -17,44 +16,31 @@ use crate::zone::{ZoneEntry, zone_entry};
 pub fn spare_in(t: u32, e: ZoneEntry) -> u64
     ensures { (result ≡ spare_in t e) × (result ≤ 4294967295) }
 {
-    if e.free == 0 {
-        return 0;
-    }
-    if e.ztype != t {
-        return 0;
-    }
-    if is_open(e) {
+    if e.free == 0 || e.ztype != t || is_open(e) {
         return 0;
     }
     e.free as u64
 }
 
 // The free blocks of type t in the zones that are not open.
-fn spare_of(b: &[u8], p: Places, t: u32) -> u64
-    requires { Layout p (length b.now) }
-    ensures { result ≡ spare_of (view_of p b.now) t }
+fn spare_of(b: &Books<'_>, t: u32) -> u64
+    ensures { result ≡ spare_of (books_view b.now) t }
 {
-    let last = p.zones - 2;
-    let mut n: u64 = 0;
-    let mut i: u32 = 0;
-    while i < last {
-        n += spare_in(t, zone_entry(b, p, Zone(i + 2)));
-        i += 1;
-    }
-    n
+    (2..b.places.zones)
+        .map(|z| spare_in(t, zone_entry(b, Zone(z))))
+        .sum()
 }
 
 // The open zones that n blocks of type t take.
-fn lack_of(b: &[u8], p: Places, t: u32, n: u32) -> u64
-    requires layout { Layout p (length b.now) }
+fn lack_of(b: &Books<'_>, t: u32, n: u32) -> u64
     requires data_type { DataType t }
-    ensures { (result ≡ lack_of (view_of p b.now) t n) × (result ≤ 4294968319) }
+    ensures { (result ≡ lack_of (books_view b.now) t n) × (result ≤ 4294968319) }
 {
     if n == 0 {
         return 0;
     }
     let wanted = n as u64;
-    let free = spare_of(b, p, t);
+    let free = spare_of(b, t);
     if wanted <= free {
         return 0;
     }
@@ -63,15 +49,9 @@ fn lack_of(b: &[u8], p: Places, t: u32, n: u32) -> u64
 }
 
 // Whether there is a lawful choice of so many blocks of each type, H to C.
-pub fn room(b: &[u8], p: Places, counts: [u32; 6]) -> bool
-    requires { Layout p (length b.now) }
-    ensures { Says result (Enough (view_of p b.now) (count_at counts)) }
+pub fn room(b: &Books<'_>, counts: [u32; 6]) -> bool
+    ensures { Says result (Enough (books_view b.now) (count_at counts)) }
 {
-    let mut n: u64 = 0;
-    let mut i: u32 = 0;
-    while i < 6 {
-        n += lack_of(b, p, i + 3, counts[5 - i as usize]);
-        i += 1;
-    }
-    n <= open_zones(b, p) as u64
+    let lacking: u64 = (3..9).map(|t| lack_of(b, t, counts[8 - t as usize])).sum();
+    lacking <= open_zones(b) as u64
 }

@@ -4,17 +4,17 @@ ghost use Rattle.field.specs.Runs.{SetAhead};
 ghost use Rattle.tables.specs.Places.{Layout};
 ghost use Rattle.tables.specs.Sectors.{put_sectors};
 
+use crate::books::Books;
 use crate::kinds::Sector;
 use crate::places::Places;
 use field::runs::{set_ahead, set_bits};
 
 // How many sectors from s on, of those that are left, are in use and can be passed over at once; none where s is free.
-pub fn used_ahead(b: &[u8], p: Places, s: Sector, left: u32) -> u32
-    requires layout { Layout p (length b.now) }
-    requires left_nonzero { (0 < left) × (s.0 + left ≤ 1024 * p.zones) }
-    ensures { SetAhead b.now p.sectortable s.0 left result }
+pub fn used_ahead(b: &Books<'_>, s: Sector, left: u32) -> u32
+    requires left_nonzero { (0 < left) × (s.0 + left ≤ 1024 * b.now.places.zones) }
+    ensures { SetAhead b.now.raw.now b.now.places.sectortable s.0 left result }
 {
-    set_ahead(b, p.sectortable, s.0 as usize, left as usize) as u32
+    set_ahead(b.raw, b.places.sectortable, s.0 as usize, left as usize) as u32
 }
 
 // Marks the n sectors from s on: 1 in use, 0 free.

@@ -1,4 +1,5 @@
 // Sector 0: what the volume is. A writer for each field, and a reader for those that are read (000, 4.1.1).
+// Each function names a field of the paper by its place and width; the generic readers and writers are the crate field's.
 ghost use Rattle.std.specs.Prelude.{◌≡◌, ◌≤◌, ◌<◌, length};
 ghost use Rattle.tables.specs.Sector0.{mark_of, put_mark, version_of, put_version, put_application, put_volume_name, put_volume_id, put_owner, put_owner_code, put_initialized, zones_of, put_zones, sectors_per_zone_of, put_sectors_per_zone, bytes_per_sector_of, put_bytes_per_sector, zone_start_of, put_zone_start, sector_start_of, put_sector_start, index_start_of, put_index_start, index_size_of, put_index_size};
 

@@ -1,4 +1,5 @@
 // Sector 1: what the volume holds now. A reader and a writer for each field (000, 4.1.2).
+// Each function names a field of the paper by its place and width; the generic readers and writers are the crate field's.
 ghost use Rattle.std.specs.Prelude.{◌≡◌, ◌≤◌, ◌<◌, length};
 ghost use Rattle.tables.specs.Sector1.{indexes_of, put_indexes, active_of, put_active, deleted_of, put_deleted, free_of, put_free, system_of, put_system, directory_of, put_directory, put_latest, first_free_of, put_first_free, flag_of, put_flag};
 

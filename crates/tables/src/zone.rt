@@ -3,29 +3,29 @@ ghost use Rattle.std.specs.Prelude.{◌≡◌, ◌≤◌, ◌<◌, length};
 ghost use Rattle.tables.specs.Places.{Layout};
 ghost use Rattle.tables.specs.Zones.{zone_at, put_zone};
 
+use crate::books::Books;
 use crate::kinds::Zone;
 use crate::places::Places;
 use crate::sizes::ENTRY_LEN;
 use field::numbers::{get_u16, put_u16};
 
 // Type, free blocks, third field.
-#[derive(Clone, Copy)]
+#[derive(Clone, Copy, PartialEq, Eq)]
 pub struct ZoneEntry {
     pub ztype: u32,
     pub free: u32,
     pub third: u32,
 }
 
-pub fn zone_entry(b: &[u8], p: Places, z: Zone) -> ZoneEntry
-    requires layout { Layout p (length b.now) }
-    requires le_z { (1 ≤ z.0) × (z.0 ≤ p.zones) }
-    ensures { result ≡ zone_at p b.now z.0 }
+pub fn zone_entry(b: &Books<'_>, z: Zone) -> ZoneEntry
+    requires le_z { (1 ≤ z.0) × (z.0 ≤ b.now.places.zones) }
+    ensures { result ≡ zone_at b.now.places b.now.raw.now z.0 }
 {
-    let at = p.zonetable + ENTRY_LEN * (z.0 as usize - 1);
+    let at = b.places.zonetable + ENTRY_LEN * (z.0 as usize - 1);
     ZoneEntry {
-        ztype: get_u16(b, at),
-        free: get_u16(b, at + 2),
-        third: get_u16(b, at + 4),
+        ztype: get_u16(b.raw, at),
+        free: get_u16(b.raw, at + 2),
+        third: get_u16(b.raw, at + 4),
     }
 }
 

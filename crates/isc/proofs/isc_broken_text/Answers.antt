@@ -1,8 +1,5 @@
-use Rattle.isc.proofs.BorderLaws.{text_short, broken_room, broken_written}
+use Rattle.isc.proofs.BorderLaws.{broken_room, broken_written}
 use Rattle.isc.proofs.isc_broken_text.Goals as goal
-
-pub returns-then-text-lt64 : goal.returns-then-text-lt64
-returns-then-text-lt64 c = search text_short
 
 pub hand_back_text-requires : goal.hand_back_text-requires
 hand_back_text-requires c = search broken_room

@@ -43,13 +43,13 @@ pub used_ahead-used-requires : goal.used_ahead-used-requires
 used_ahead-used-requires c =
     let inside : c.loop-k.k * c.block_sectors-size.result + c.block_sectors-size.result ≤ 1024
     = block_inside _ _ _ c.block_sectors-size.ensures.0 c.block_sectors-size.ensures.1 (omega arith) in
-    record { layout = search rules; left_nonzero = (omega arith, omega arith) }
+    record { left_nonzero = (omega arith, omega arith) }
 
 pub returns-then-used-eq0 : goal.returns-then-used-eq0
 returns-then-used-eq0 c =
     let l = c.loop-k in
     let a = c.args in
-    let v = view_of a.p a.b.now in
+    let v = view_of a.b.now.places a.b.now.raw.now in
     let none = clear_none v a.t a.z.0 _ _ c.first_sector-first.ensures c.block_sectors-size.ensures.0 a.from l.k l.invariant.2 in
     search_hit _ a.from _ l.k l.invariant.0 (omega arith) none (omega arith)
     (clear_yes v a.t a.z.0 _ _ c.first_sector-first.ensures c.block_sectors-size.ensures.0 l.k _ refl (c.used_ahead-used.ensures.clear c.if-used-eq0.true))
@@ -72,7 +72,7 @@ loop-k-preserved c =
     let a = c.args in (
       omega arith,
       over c,
-      clear_more (view_of a.p a.b.now) a.t a.z.0 _ _ c.first_sector-first.ensures c.block_sectors-size.ensures.0 a.from l.k l.invariant.2
+      clear_more (view_of a.b.now.places a.b.now.raw.now) a.t a.z.0 _ _ c.first_sector-first.ensures c.block_sectors-size.ensures.0 a.from l.k l.invariant.2
           _ c.block_sectors-size.ensures.1.some c.used_ahead-used.ensures.set,
     )
 
@@ -80,5 +80,5 @@ pub returns : goal.returns
 returns c =
     let l = c.loop-k in
     let a = c.args in
-    let none = clear_none (view_of a.p a.b.now) a.t a.z.0 _ _ c.first_sector-first.ensures c.block_sectors-size.ensures.0 a.from l.k l.invariant.2 in
+    let none = clear_none (view_of a.b.now.places a.b.now.raw.now) a.t a.z.0 _ _ c.first_sector-first.ensures c.block_sectors-size.ensures.0 a.from l.k l.invariant.2 in
     search_end _ a.from _ l.k l.invariant.0 (omega arith) none (omega arith)

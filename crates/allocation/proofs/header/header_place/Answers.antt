@@ -1,20 +1,12 @@
-use Rattle.allocation.proofs.HeaderLaws.{place_low, place_here, place_there}
-use native.Mathlib.Omega.{arith}
-use borrow.Author.Rules.{rules}
+use Rattle.std.proofs.Common.{◌∙◌}
+use Rattle.allocation.proofs.HeaderLaws.{place_here, place_there, place_none}
 use Rattle.allocation.proofs.header.header_place.Goals as goal
 
-pub clear_run-requires : goal.clear_run-requires
-clear_run-requires c = let z = c.fitting_zone-z in record { layout = search rules; le_z = (place_low _ _ z.result z.ensures, search rules, search rules, search rules) }
+pub returns-in-Some : goal.returns-in-Some
+returns-in-Some c = let k = c.in-Some.ensures in (k.1 ∙ place_here _ _ k.0, rw k.1 k.0)
 
-pub zone_entry-requires : goal.zone_entry-requires
-zone_entry-requires c = let z = c.fitting_zone-z in record { layout = search rules; le_z = (omega (arith, place_low _ _ z.result z.ensures), search rules) }
-
-pub returns-then-z-p : goal.returns-then-z-p
-returns-then-z-p c =
-    let z = c.fitting_zone-z in
-    place_here _ _ z.result z.ensures _ _ _ c.if-z-p.true c.clear_run.ensures.0 c.zone_entry.ensures c.without.ensures
+pub returns-in_err-zone : goal.returns-in_err-zone
+returns-in_err-zone c = rw c.from_residual.ensures (place_none _ _ c.in_default.ensures c.in_err-zone.ensures)
 
 pub returns : goal.returns
-returns c =
-    let z = c.fitting_zone-z in
-    place_there _ _ z.result z.ensures _ c.if-z-p.false c.lowest_open.ensures
+returns c = let z = c.in_ok-zone.ensures in (place_there _ _ c.in_default.ensures c.in_ok-zone.zone z.0, z.1)

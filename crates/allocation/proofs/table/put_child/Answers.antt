@@ -1,6 +1,7 @@
-use Rattle.allocation.proofs.TableLaws.{child_put}
-use borrow.Author.Rules.{rules}
+use Rattle.std.proofs.Common.{rules}
+use Rattle.allocation.specs.NewTables.{put_child}
 use Rattle.allocation.proofs.table.put_child.Goals as goal
 
 pub returns : goal.returns
-returns c = (search rules, search child_put)
+unfolding put_child
+returns c = (search rules, cc)

@@ -1,15 +1,15 @@
-use Rattle.examination.proofs.BrokenLaws.{counts_verdict}
-use Rattle.examination.proofs.RulingLaws.{fault_first, fault_rest, fault_only, sector_verdict, index_verdict}
+use borrow.Author.Rules.{rules}
+use Rattle.examination.proofs.RulingLaws.{named_here, named_next, none_named, whole_fails, whole_holds}
 use Rattle.examination.proofs.broken.file_fault.Goals as goal
 
-pub returns-then-is_fault : goal.returns-then-is_fault
-returns-then-is_fault c = search (fault_first, sector_verdict)
+pub returns-in-Some : goal.returns-in-Some
+returns-in-Some c = search (named_here, rules)
 
-pub returns-then-is_fault-2 : goal.returns-then-is_fault-2
-returns-then-is_fault-2 c = search (fault_first, fault_rest, sector_verdict, index_verdict)
+pub returns-in-Some-rule8 : goal.returns-in-Some-rule8
+returns-in-Some-rule8 c = search (named_next, named_here, rules)
+
+pub returns-then-not-rule9 : goal.returns-then-not-rule9
+returns-then-not-rule9 c = search (named_next, named_here, whole_fails, rules)
 
 pub returns : goal.returns
-returns c =
-    let counts = counts_verdict _ _ c.rule9.result c.rule9.ensures c.in_count.ensures in
-    fault_rest _ _ c.in_sector-sectors.result _ (search sector_verdict) c.is_fault.ensures c.in_count.result c.if-is_fault.false
-    (fault_rest _ _ c.in_index-files.result _ (search index_verdict) c.is_fault-2.ensures c.in_count.result c.if-is_fault-2.false (fault_only _ _ counts))
+returns c = search (named_next, none_named, whole_holds, rules)

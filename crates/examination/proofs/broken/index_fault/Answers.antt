@@ -1,23 +1,18 @@
-use Rattle.examination.proofs.BrokenLaws.{chain_verdict}
-use Rattle.examination.proofs.RulingLaws.{fault_first, fault_rest, fault_only, index_verdict}
+use borrow.Author.Rules.{rules}
+use Rattle.examination.proofs.RulingLaws.{named_here, named_next, none_named, whole_fails, whole_holds}
 use Rattle.examination.proofs.broken.index_fault.Goals as goal
 
-pub returns-then-is_fault : goal.returns-then-is_fault
-returns-then-is_fault c = search (fault_first, index_verdict)
+pub returns-in-Some : goal.returns-in-Some
+returns-in-Some c = search (named_here, rules)
 
-pub returns-then-is_fault-2 : goal.returns-then-is_fault-2
-returns-then-is_fault-2 c =
-    let chain = chain_verdict _ _ c.free_chain.result c.free_chain.ensures c.in_count-chain.ensures in
-    fault_rest _ _ c.in_index-own.result _ (search index_verdict) c.is_fault.ensures c.in_count-chain.result c.if-is_fault.false (fault_first _ _ _ _ chain c.is_fault-2.ensures c.if-is_fault-2.true)
+pub returns-then-not-free_chain : goal.returns-then-not-free_chain
+returns-then-not-free_chain c = search (named_next, named_here, whole_fails, rules)
 
-pub returns-then-is_fault-3 : goal.returns-then-is_fault-3
-returns-then-is_fault-3 c =
-    let chain = chain_verdict _ _ c.free_chain.result c.free_chain.ensures c.in_count-chain.ensures in
-    fault_rest _ _ c.in_index-own.result _ (search index_verdict) c.is_fault.ensures c.in_index-children.result c.if-is_fault.false
-    (fault_rest _ _ _ _ chain c.is_fault-2.ensures c.in_index-children.result c.if-is_fault-2.false (search (fault_first, index_verdict)))
+pub returns-in-Some-rule5_place : goal.returns-in-Some-rule5_place
+returns-in-Some-rule5_place c = search (named_next, named_here, whole_holds, rules)
+
+pub returns-in_err-i : goal.returns-in_err-i
+returns-in_err-i c = search (named_next, none_named, whole_holds, rules)
 
 pub returns : goal.returns
-returns c =
-    let chain = chain_verdict _ _ c.free_chain.result c.free_chain.ensures c.in_count-chain.ensures in
-    fault_rest _ _ c.in_index-own.result _ (search index_verdict) c.is_fault.ensures c.in_index.result c.if-is_fault.false
-    (fault_rest _ _ _ _ chain c.is_fault-2.ensures c.in_index.result c.if-is_fault-2.false (search (fault_rest, fault_only, index_verdict)))
+returns c = search (named_next, named_here, whole_holds, rules)

@@ -1,14 +1,15 @@
+use borrow.Author.Rules.{rules}
 use Rattle.examination.proofs.BrokenLaws.{zones_named, index_r6, indexes_named, files_named}
 use Rattle.examination.proofs.broken.lowest_fault.Goals as goal
 
-pub returns-then-is_fault : goal.returns-then-is_fault
-returns-then-is_fault c = search zones_named
+pub returns-in-Some : goal.returns-in-Some
+returns-in-Some c = search (zones_named, rules)
 
-pub returns-then-is_fault-2 : goal.returns-then-is_fault-2
-returns-then-is_fault-2 c = search indexes_named
+pub returns-in-Some-index_fault : goal.returns-in-Some-index_fault
+returns-in-Some-index_fault c = search (indexes_named, rules)
 
-pub file_fault-requires : goal.file_fault-requires
-file_fault-requires c = search index_r6
+pub file_fault-requires-clause-r6 : goal.file_fault-requires-clause-r6
+file_fault-requires-clause-r6 c = search (index_r6, rules)
 
 pub returns : goal.returns
-returns c = search files_named
+returns c = search (files_named, rules)

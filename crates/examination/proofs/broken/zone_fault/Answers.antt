@@ -1,11 +1,15 @@
-use Rattle.examination.proofs.RulingLaws.{fault_first, fault_rest, fault_only, zone_verdict, sector_verdict}
+use borrow.Author.Rules.{rules}
+use Rattle.examination.proofs.RulingLaws.{named_here, named_next, none_named}
 use Rattle.examination.proofs.broken.zone_fault.Goals as goal
 
-pub returns-then-is_fault : goal.returns-then-is_fault
-returns-then-is_fault c = search (fault_first, zone_verdict, sector_verdict) depth 20
+pub returns-in-Some : goal.returns-in-Some
+returns-in-Some c = search (named_here, rules)
 
-pub returns-then-is_fault-2 : goal.returns-then-is_fault-2
-returns-then-is_fault-2 c = search (fault_first, fault_rest, zone_verdict, sector_verdict) depth 20
+pub returns-in-Some-rule2 : goal.returns-in-Some-rule2
+returns-in-Some-rule2 c = search (named_next, named_here, rules)
+
+pub returns-in_err-z : goal.returns-in_err-z
+returns-in_err-z c = search (named_next, none_named, rules)
 
 pub returns : goal.returns
-returns c = search (fault_rest, fault_only, zone_verdict, sector_verdict) depth 20
+returns c = search (named_next, named_here, rules)

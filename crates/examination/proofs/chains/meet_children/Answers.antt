@@ -6,4 +6,4 @@ pub returns-then-not-is_parent : goal.returns-then-not-is_parent
 returns-then-not-is_parent c = search meets_none
 
 pub meet_chain-requires : goal.meet_chain-requires
-meet_chain-requires c = record { layout = search rules; parent = search meets_parent; met_up_to = search rules }
+meet_chain-requires c = record { parent = search meets_parent; met_up_to = search rules }

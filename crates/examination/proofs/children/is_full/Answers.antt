@@ -1,20 +1,15 @@
 use native.Mathlib.Omega.{arith}
-use Rattle.examination.proofs.ChildLaws.{full_stop, full_end, full_more}
-use Rattle.marks.proofs.MarkLaws.{slot_in}
+use Prim.Native.Nat.{◌+◌, ◌*◌, ◌≤◌}
 use borrow.Author.Rules.{rules}
+use Rattle.std.proofs.iter.Serving.{serving}
+use Rattle.tables.proofs.IndexLaws.{slots_in}
+use Rattle.field.proofs.Tests.{says_map}
+use Rattle.tables.specs.Indexes.{UsedAt}
+use Rattle.examination.proofs.FindingLaws.{says_all}
 use Rattle.examination.proofs.children.is_full.Goals as goal
 
-pub loop-j-init : goal.loop-j-init
-loop-j-init c = (search rules, λ k l. absurd (omega arith))
-
-pub pointer_at-requires : goal.pointer_at-requires
-pointer_at-requires c = record { t_len = search rules; at_bound = search slot_in }
-
-pub returns-then-unused : goal.returns-then-unused
-returns-then-unused c = search full_stop
-
-pub loop-j-preserved : goal.loop-j-preserved
-loop-j-preserved c = (search rules, search full_more)
+pub all-requires-clause-callable : goal.all-requires-clause-callable
+all-requires-clause-callable c = let room : c.base-base.result + 6 * c.slots-slots.result ≤ 128 = omega (arith, slots_in c.args.i.0 c.table-t.result.now) in grind serving
 
 pub returns : goal.returns
-returns c = search full_end
+returns c = says_map c.all.result (λ h. search rules) (λ h. search rules) (says_all (λ j. UsedAt c.table-t.result.now (c.base-base.result + 6 * j)) _ _ _ _ c.all.ensures.ran (λ x q h. search rules) (λ x q h. search rules))

@@ -1,21 +1,19 @@
-use native.Mathlib.Omega.{arith}
-use mathlib.Core.Path.{sym, ◌∙◌}
-use Rattle.examination.proofs.LimitLaws.{unequal_here, unequal_limit, equal_all}
-use borrow.Author.Count.{below_more}
+use mathlib.Core.Path.{◌≡◌}
+use Rattle.field.specs.Bits.{bit_at}
+use Rattle.marks.specs.Marks.{mark_at}
+use Rattle.examination.proofs.FindingLaws.{finds_lowest}
+use Rattle.examination.proofs.LimitLaws.{unequal_or, unequal_only}
 use borrow.Author.Rules.{rules}
 use Rattle.examination.proofs.owned.first_unequal.Goals as goal
 
-pub loop-s-init : goal.loop-s-init
-loop-s-init c = (search rules, λ k l h. absurd (omega arith))
-
-pub returns-then-get_bit-mark_of : goal.returns-then-get_bit-mark_of
-returns-then-get_bit-mark_of c = search unequal_here
-
-pub loop-s-preserved : goal.loop-s-preserved
-loop-s-preserved c = (search rules, below_more _ _ c.loop-s.invariant.1 (λ h. sym c.get_bit.ensures.0 ∙ c.if-get_bit-mark_of.false ∙ c.mark_of.ensures.0))
-
-pub returns-then-limit-end : goal.returns-then-limit-end
-returns-then-limit-end c = search unequal_limit
+pub returns-then-limit-b : goal.returns-then-limit-b
+returns-then-limit-b c =
+    let a = c.args in
+    rw c.or.ensures (unequal_or a.b.now.places a.b.now.raw.now a.m.now a.limit.0 c.find-unequal.result (search rules) (search rules)
+    (finds_lowest (λ k. bit_at a.b.now.raw.now a.b.now.places.sectortable k ≡ mark_at a.m.now k) _ _ _ c.find-unequal.result c.find-unequal.ensures.ran (λ x q h. search rules) (λ x q h. search rules)))
 
 pub returns : goal.returns
-returns c = search equal_all
+returns c =
+    let a = c.args in
+    unequal_only a.b.now.places a.b.now.raw.now a.m.now a.limit.0 c.find-unequal.result (search rules) (search rules)
+    (finds_lowest (λ k. bit_at a.b.now.raw.now a.b.now.places.sectortable k ≡ mark_at a.m.now k) _ _ _ c.find-unequal.result c.find-unequal.ensures.ran (λ x q h. search rules) (λ x q h. search rules))

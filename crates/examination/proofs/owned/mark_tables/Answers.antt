@@ -4,16 +4,16 @@ use Rattle.examination.proofs.LimitLaws.{all_none, all_more, all_end}
 use borrow.Author.Rules.{rules}
 use Rattle.examination.proofs.owned.mark_tables.Goals as goal
 
-pub loop-i-init : goal.loop-i-init
-loop-i-init c = (search rules, search all_none)
+pub loop-k-init : goal.loop-k-init
+loop-k-init c = search (all_none, rules)
 
 pub mark_table-low-requires : goal.mark_table-low-requires
 mark_table-low-requires c =
-    table_fits c.args.p c.args.b.now c.requires.layout c.requires.r6 _ _ _ (omega arith) (omega arith) c.table-t.ensures.0 c.loop-i.invariant.1.long
+    table_fits c.args.b.now.places c.args.b.now.raw.now c.args.b.now.layout c.requires.r6 _ _ _ (omega arith) (omega arith) c.table.ensures.0 c.loop-k.invariant.long
 
-pub loop-i-preserved : goal.loop-i-preserved
-loop-i-preserved c =
-    (search rules, all_more _ _ _ _ _ _ c.loop-i.invariant.1 _ _ _ c.table-t.ensures.0 c.mark_table-low.ensures)
+pub loop-k-preserved : goal.loop-k-preserved
+loop-k-preserved c =
+    all_more _ _ _ _ _ _ c.loop-k.invariant _ _ _ c.table.ensures.0 c.mark_table-low.ensures
 
 pub returns : goal.returns
-returns c = search all_end
+returns c = search (all_end, rules)

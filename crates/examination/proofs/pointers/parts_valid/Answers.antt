@@ -1,15 +1,11 @@
-use Rattle.examination.proofs.ZonePartLaws.{parts_none, parts_more, parts_refused, parts_all}
+use Rattle.examination.proofs.ZonePartLaws.{parts_says}
+use Rattle.examination.specs.ZoneParts.{Part}
+use Rattle.tables.specs.Views.{view_of}
+use Rattle.examination.proofs.FindingLaws.{says_all}
 use borrow.Author.Rules.{rules}
 use Rattle.examination.proofs.pointers.parts_valid.Goals as goal
 
-pub loop-z-init : goal.loop-z-init
-loop-z-init c = (search rules, search rules, search parts_none)
-
-pub returns-then-not-part_valid : goal.returns-then-not-part_valid
-returns-then-not-part_valid c = search parts_refused
-
-pub loop-z-preserved : goal.loop-z-preserved
-loop-z-preserved c = (search rules, search rules, search parts_more)
-
 pub returns : goal.returns
-returns c = search parts_all
+returns c =
+    let a = c.args in
+    parts_says _ _ _ _ _ c.all.result (search rules) (search rules) (says_all (Part (view_of a.b.now.places a.b.now.raw.now) a.q.start.0 a.q.count) _ _ _ _ c.all.ensures.ran (λ x q h. search rules) (λ x q h. search rules))

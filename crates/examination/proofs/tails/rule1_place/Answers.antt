@@ -1,9 +1,6 @@
-use Rattle.examination.proofs.TailLaws.{zone_fails, sector_fails, tails_hold}
+use Rattle.examination.proofs.TailLaws.{sector_fails, tails_hold}
 use mathlib.Core.Path.{refl}
 use Rattle.examination.proofs.tails.rule1_place.Goals as goal
-
-pub returns-then-not-zone_tail_null : goal.returns-then-not-zone_tail_null
-returns-then-not-zone_tail_null c = search (zone_fails, refl)
 
 pub returns-then-not-sector_tail_null : goal.returns-then-not-sector_tail_null
 returns-then-not-sector_tail_null c = search (sector_fails, refl)

@@ -1,10 +1,6 @@
-use Prim.Native.Nat.{◌≤◌, ◌-◌}
 use Rattle.tables.specs.Views.{view_of}
 use Rattle.examination.specs.Surveys.{TypesMarked}
 use Rattle.examination.proofs.types.mark_files.Given as goal
 
 abbrev pub invariant-loop-k : goal.invariant-loop-k
-invariant-loop-k l = (l.k ≤ l.p.indexes) × TypesMarked (view_of l.p l.b) l.k l.m
-
-abbrev pub decreases-loop-k : goal.decreases-loop-k
-decreases-loop-k l = l.p.indexes - l.k
+invariant-loop-k l = TypesMarked (view_of l.b.places l.b.raw.now) l.k l.m

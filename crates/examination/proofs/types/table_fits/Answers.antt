@@ -7,13 +7,10 @@ pub returns-then-not-is_variable : goal.returns-then-not-is_variable
 returns-then-not-is_variable c = search fits_other
 
 pub file_type-ty-requires : goal.file_type-ty-requires
-file_type-ty-requires c = record { layout = search rules; r6 = c.requires.r6; le_f = search rules; f_value = search fits_word }
-
-pub table_type-requires : goal.table_type-requires
-table_type-requires c = record { layout = search rules; t_len = search rules; shape = rw c.table.ensures.0 (c.requires.r6 c.args.i.0 (omega arith) (omega arith)) }
+file_type-ty-requires c = record { r6 = c.requires.r6; le_f = search rules; f_value = search fits_word }
 
 pub returns : goal.returns
 returns c =
     let a = c.args in
-    fits_says a.p a.b.now a.i.0 a.f.0 c.decode.result c.is_variable.result c.decode.ensures c.is_variable.ensures _ _ c.table_type.result
+    fits_says a.b.now.places a.b.now.raw.now a.i.0 a.f.0 c.decode.result c.is_variable.result c.decode.ensures c.is_variable.ensures _ _ c.table_type.result
     (search rules) (omega arith) (omega arith) c.file_type-ty.ensures c.table.ensures.0 c.table_type.ensures

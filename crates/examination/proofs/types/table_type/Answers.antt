@@ -1,24 +1,29 @@
 use native.Mathlib.Omega.{arith}
-use Rattle.marks.proofs.MarkLaws.{slot_in}
+use mathlib.Core.Path.{refl}
+use Rattle.std.proofs.iter.Serving.{serving}
+use Rattle.tables.specs.Indexes.{pointer_at}
+use Rattle.tables.proofs.IndexLaws.{slots_in}
+use Rattle.examination.proofs.SurveyLaws.{run_within, table_each}
+use Rattle.examination.specs.Surveys.{RunType}
+use Rattle.field.specs.Numbers.{u16_at, u32_at}
 use Rattle.tables.specs.Views.{view_of}
-use Rattle.examination.proofs.SurveyLaws.{run_within, table_not, table_more, table_end}
+use Prim.Native.Nat.{ℕ, ◌+◌, ◌*◌, ◌≤◌, ◌<◌}
+use Rattle.examination.proofs.FindingLaws.{says_all}
 use borrow.Author.Rules.{rules}
 use Rattle.examination.proofs.types.table_type.Goals as goal
 
-pub loop-j-init : goal.loop-j-init
-loop-j-init c = (search rules, λ k l. absurd (omega arith))
-
-pub pointer_at-q-requires : goal.pointer_at-q-requires
-pointer_at-q-requires c = record { t_len = search rules; at_bound = search slot_in }
-
-pub run_type-requires : goal.run_type-requires
-run_type-requires c = let a = c.args in record { layout = search rules; count_bound = run_within (view_of a.p a.b.now) a.i.0 a.t.now c.loop-j.j c.base-base.result c.pointer_at-q.result (search rules) (omega arith) (search rules) (search rules) }
-
-pub returns-then-not-run_type : goal.returns-then-not-run_type
-returns-then-not-run_type c = search table_not
-
-pub loop-j-preserved : goal.loop-j-preserved
-loop-j-preserved c = (search rules, search table_more)
+pub all-requires-clause-callable : goal.all-requires-clause-callable
+all-requires-clause-callable c =
+    let a = c.args in
+    let base = c.base-base.result in
+    let room : base + 6 * c.slots-slots.result ≤ 128 = omega (arith, slots_in a.i.0 a.t.now) in
+    let within : (j : ℕ) → j < c.slots-slots.result → (pointer_at a.t.now (base + 6 * j)).start.0 + (pointer_at a.t.now (base + 6 * j)).count ≤ 1024 * a.b.now.places.zones =
+    λ j l. run_within (view_of a.b.now.places a.b.now.raw.now) a.i.0 a.t.now j base (pointer_at a.t.now (base + 6 * j)) c.requires.shape (omega arith) c.base-base.ensures.0 refl in
+    grind serving
 
 pub returns : goal.returns
-returns c = search table_end
+returns c =
+    let a = c.args in
+    let base = c.base-base.result in
+    table_each a.b.now.places a.b.now.raw.now a.i.0 a.t.now a.ty base _ c.all.result (search rules) (search rules)
+    (says_all (λ j. RunType (view_of a.b.now.places a.b.now.raw.now) (u32_at a.t.now (base + 6 * j)) (u16_at a.t.now (base + 6 * j + 4)) a.ty) _ _ _ _ c.all.ensures.ran (λ x q h. search rules) (λ x q h. search rules))

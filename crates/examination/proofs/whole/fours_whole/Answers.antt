@@ -1,15 +1,8 @@
-use Rattle.examination.proofs.WholeLaws.{fours_none, fours_more, fours_stop, fours_end}
+use Rattle.examination.proofs.WholeLaws.{Two, fours_each}
+use Prim.Native.Nat.{◌+◌, ◌*◌}
+use Rattle.examination.proofs.FindingLaws.{says_all}
 use borrow.Author.Rules.{rules}
 use Rattle.examination.proofs.whole.fours_whole.Goals as goal
 
-pub loop-i-init : goal.loop-i-init
-loop-i-init c = (search rules, search fours_none)
-
-pub returns-then-not-two_whole : goal.returns-then-not-two_whole
-returns-then-not-two_whole c = search fours_stop
-
-pub loop-i-preserved : goal.loop-i-preserved
-loop-i-preserved c = (search rules, search fours_more)
-
 pub returns : goal.returns
-returns c = search fours_end
+returns c = let a = c.args in fours_each _ _ _ c.all.result (says_all (λ i. Two a.s.now a.base (a.from.0 + 8 * i)) _ _ _ _ c.all.ensures.ran (λ x q h. search rules) (λ x q h. search rules))

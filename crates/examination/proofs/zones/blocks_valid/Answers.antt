@@ -1,8 +1,6 @@
-use Rattle.examination.proofs.WholeLaws.{not_whole, count_says}
+use Rattle.examination.proofs.WholeLaws.{count_says}
+use borrow.Author.Rules.{rules}
 use Rattle.examination.proofs.zones.blocks_valid.Goals as goal
 
-pub returns-then-not-blocks_whole : goal.returns-then-not-blocks_whole
-returns-then-not-blocks_whole c = search not_whole
-
-pub returns : goal.returns
-returns c = search count_says
+pub returns-then-blocks_whole : goal.returns-then-blocks_whole
+returns-then-blocks_whole c = search (count_says, rules)

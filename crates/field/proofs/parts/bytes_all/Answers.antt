@@ -1,17 +1,24 @@
-use Rattle.field.proofs.PartLaws.{all_behind, all_within}
-use Rattle.field.proofs.Tests.{passed, refused}
-use borrow.Author.Rules.{rules}
+use Rattle.std.proofs.lemmas.Iterator.{YieldsList-from_slice}
+use Rattle.std.proofs.lemmas.Iterator.Search.{all_from_yields_List}
+use Rattle.std.proofs.Common.{rules, ◌≡◌, ◌∙◌, ◌+◌, ◌-◌, ap, arith, take, drop}
+use Rattle.std.specs.List.{list_all}
+use borrow.Author.Tests.{tests}
+use Rattle.field.proofs.PartLaws.{is, are, rest_says, eights_say}
 use Rattle.field.proofs.parts.bytes_all.Goals as goal
 
-pub returns-then-not-some_all : goal.returns-then-not-some_all
-returns-then-not-some_all c =
+pub returns-then-all : goal.returns-then-all
+returns-then-all c =
     let a = c.args in
-    λ all. refused c.some_all.result c.some_all.ensures (search rules) (all_within a.s.now a.at c.loop-i.i c.stride-w.result a.n a.v (search rules) all)
+    let t = c.as_chunks.ensures in
+    let e : a.at + a.n - a.at ≡ a.n = omega arith in
+    let eights = all_from_yields_List (are a.v) _ _ c.all.result c.all.ensures.ran (YieldsList-from_slice c.as_chunks.result.0.now cc) (λ x b q k. search (rules, tests)) in
+    let left = all_from_yields_List (is a.v) _ _ c.all-then-all.result c.all-then-all.ensures.ran (YieldsList-from_slice c.as_chunks.result.1.now cc) (λ x b q k. search (rules, tests)) in
+    rest_says a.s.now a.at a.n a.v (search rules) _ (ap (λ m. take m (drop a.at a.s.now)) e) _ c.all.result c.all-then-all.result (omega arith) (eights ∙ ap (list_all (are a.v)) t.front) c.if-all.true (left ∙ ap (list_all (is a.v)) t.back)
 
-pub loop-i-preserved : goal.loop-i-preserved
-loop-i-preserved c =
+pub returns-else-all : goal.returns-else-all
+returns-else-all c =
     let a = c.args in
-    (search rules, all_behind a.s.now a.at c.loop-i.i c.stride-w.result a.v c.loop-i.invariant.1 (passed c.some_all.result c.some_all.ensures (search rules)))
-
-pub returns : goal.returns
-returns c = λ k l. c.loop-i.invariant.1 k (search rules)
+    let t = c.as_chunks.ensures in
+    let e : a.at + a.n - a.at ≡ a.n = omega arith in
+    let eights = all_from_yields_List (are a.v) _ _ c.all.result c.all.ensures.ran (YieldsList-from_slice c.as_chunks.result.0.now cc) (λ x b q k. search (rules, tests)) in
+    eights_say a.s.now a.at a.n a.v (search rules) _ (ap (λ m. take m (drop a.at a.s.now)) e) _ c.all.result (omega arith) (eights ∙ ap (list_all (are a.v)) t.front) c.if-all.false

@@ -1,18 +1,27 @@
-use native.Mathlib.Omega.{arith}
+use Rattle.std.proofs.Common.{rules, of_calls, tests, ℕ, List, ◌+◌, ◌-◌, ◌/◌, take, drop, arith}
+use Rattle.std.proofs.lemmas.Iterator.{YieldsList-from_slice, YieldsList-from_map}
+use Rattle.std.proofs.lemmas.Iterator.Consumers.{YieldsList-at, sum_by_from_yields_List, fits_by_from_yields_list}
 use lib.Count.{ones}
-use Prim.Native.Nat.{◌+◌, ◌≤◌}
-use Rattle.field.proofs.ByteLaws.{count_none, count_more, count_fits, count_all, count_small}
-use borrow.Author.Rules.{rules}
+use Rattle.field.proofs.ByteLaws.{part_counted}
 use Rattle.field.proofs.runs.count_bytes.Goals as goal
 
-pub loop-i-init : goal.loop-i-init
-loop-i-init c = (search rules, search count_none)
-
-pub overflow_add-n : goal.overflow_add-n
-overflow_add-n c = let h : c.loop-i.n + ones c.wide.result ≤ 262144 = search count_fits in omega arith
-
-pub loop-i-preserved : goal.loop-i-preserved
-loop-i-preserved c = (search rules, search count_more)
+pub sum-requires : goal.sum-requires
+sum-requires c =
+    let a = c.args in
+    let at : ℕ = a.base + a.from / 8 in
+    let part : List ℕ = take (at + a.bytes - at) (drop at a.s.now) in
+    let counted = part_counted a.s.now a.base a.from (at + a.bytes - at) a.bytes (omega arith) (search rules) (omega arith) (λ j. omega (arith, c.type_inv.s j)) in
+    record {
+      can = search of_calls;
+      finite = search of_calls;
+      fits = fits_by_from_yields_list ones part c.map.result _ (YieldsList-from_map _ ones (YieldsList-at c.map.ensures.source (YieldsList-from_slice part cc)) c.map.ensures.closure (λ x r q k. search (rules, tests))) (omega (arith, counted.1));
+    }
 
 pub returns : goal.returns
-returns c = (search count_all, search count_small)
+returns c =
+    let a = c.args in
+    let at : ℕ = a.base + a.from / 8 in
+    let part : List ℕ = take (at + a.bytes - at) (drop at a.s.now) in
+    let counted = part_counted a.s.now a.base a.from (at + a.bytes - at) a.bytes (omega arith) (search rules) (omega arith) (λ j. omega (arith, c.type_inv.s j)) in
+    let e = sum_by_from_yields_List ones part c.map.result c.sum.result c.sum.ensures.ran (YieldsList-from_map _ ones (YieldsList-at c.map.ensures.source (YieldsList-from_slice part cc)) c.map.ensures.closure (λ x r q k. search (rules, tests))) in
+    rw e counted

@@ -16,7 +16,7 @@ pub zone_entry-requires : goal.zone_entry-requires
 zone_entry-requires c =
     let can = c.requires.recountable (omega arith) in
     let z = c.zone_of-z.ensures in
-    record { layout = search rules; le_z = (omega (arith, z), omega (arith, z, can.high)) }
+    record { le_z = (omega (arith, z), omega (arith, z, can.high)) }
 
 -- the entry that is read is one that can count the sectors
 pub recounted-e-requires : goal.recounted-e-requires

@@ -1,6 +1,5 @@
 use native.Mathlib.Omega.{arith}
 use Rattle.files.proofs.ReleaseLaws.{freeing_none, freeing_layout, freeing_in, freeing_within, freeing_few, freeing_more, freeing_end}
-use borrow.Author.Rules.{rules}
 use Rattle.files.proofs.release.free_tables.Goals as goal
 
 pub loop-i-init : goal.loop-i-init
@@ -10,7 +9,7 @@ pub free_table-requires : goal.free_table-requires
 free_table-requires c = record { layout = search freeing_layout; le_i = freeing_in _ _ _ _ _ _ c.loop-i.invariant c.loop-i-test.true; runs_within = search freeing_within }
 
 pub table-requires : goal.table-requires
-table-requires c = record { layout = search rules; le_i = freeing_in _ _ _ _ _ _ c.loop-i.invariant c.loop-i-test.true }
+table-requires c = record { le_i = freeing_in _ _ _ _ _ _ c.loop-i.invariant c.loop-i-test.true }
 
 pub overflow_add-n : goal.overflow_add-n
 overflow_add-n c =

@@ -16,4 +16,4 @@ pub returns : goal.returns
 returns c =
     let q = c.pointer_at in
     let a = c.args in
-    pointer_is a.p a.b.now a.c _ _ c.table-t.ensures.0 c.base.ensures.0 q.result q.ensures.0 q.ensures.1
+    pointer_is a.b.now.places a.b.now.raw.now a.c _ _ c.table-t.ensures.0 c.base.ensures.0 q.result q.ensures.0 q.ensures.1

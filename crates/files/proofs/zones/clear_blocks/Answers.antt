@@ -10,5 +10,5 @@ returns c =
     let size = c.block_sectors.ensures in
     let set = c.count_bits-set.ensures in (
       omega (arith, div-le_self (1024 - c.count_bits-set.result) c.block_sectors.result),
-      rw first at (clear_count c.args.p c.args.b.now _ c.args.t _ _ set.0 size.0 size.1),
+      rw first at (clear_count c.args.b.now.places c.args.b.now.raw.now _ c.args.t _ _ set.0 size.0 size.1),
     )

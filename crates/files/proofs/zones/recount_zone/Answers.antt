@@ -11,7 +11,7 @@ returns-then-not-is_zone_type c =
     zone_other _ _ _ e.result e.ensures z.result z.ensures (search rules)
 
 pub clear_blocks-n-requires : goal.clear_blocks-n-requires
-clear_blocks-n-requires c = record { layout = search rules; le_z = search rules; zone_type = passed c.is_zone_type.result c.is_zone_type.ensures (search rules) }
+clear_blocks-n-requires c = record { le_z = search rules; zone_type = passed c.is_zone_type.result c.is_zone_type.ensures (search rules) }
 
 pub returns-then-n-e : goal.returns-then-n-e
 returns-then-n-e c = search zone_same

@@ -1,23 +1,18 @@
 use native.Mathlib.Omega.{arith}
-use mathlib.Core.Path.{sym, ◌∙◌}
-use borrow.Author.Count.{below_more}
-use Rattle.marks.proofs.MarkLaws.{agrees_stop, agrees_end}
+use Prim.Native.Nat.{ℕ, ◌+◌, ◌-◌, ◌*◌}
+use mathlib.Core.Logic.{◌≢◌}
+use mathlib.Core.Path.{◌≡◌, refl}
+use lib.ListN.{get_or}
 use borrow.Author.Rules.{rules}
+use Rattle.std.proofs.Common.{tests}
+use Rattle.std.proofs.lemmas.Iterator.{YieldsList-from_range, cases_from_all}
+use Rattle.marks.specs.Marks.{word_at}
+use Rattle.marks.proofs.MarkLaws.{agrees_says}
 use Rattle.marks.proofs.marks.agrees.Goals as goal
-
-pub loop-k-init : goal.loop-k-init
-loop-k-init c = (search rules, λ j l h. absurd (omega arith))
-
-pub returns-then-word_at-m : goal.returns-then-word_at-m
-returns-then-word_at-m c =
-    let a = c.args in
-    agrees_stop a.b.now (λ j. omega (arith, c.type_inv.b j)) a.p a.m.now c.loop-k.k c.word_at.result
-    (λ j. omega (arith, c.type_inv.m j)) (search rules) (search rules) c.word_at.ensures c.if-word_at-m.true
-
-pub loop-k-preserved : goal.loop-k-preserved
-loop-k-preserved c = (search rules, below_more _ _ c.loop-k.invariant.1 (λ h. sym c.word_at.ensures ∙ c.if-word_at-m.false))
 
 pub returns : goal.returns
 returns c =
     let a = c.args in
-    agrees_end a.b.now (λ j. omega (arith, c.type_inv.b j)) a.p a.m.now c.loop-k.k (search rules) c.loop-k.invariant.1
+    agrees_says a.b.now (λ j. omega (arith, c.type_inv.b j)) a.p a.m.now (λ j. omega (arith, c.type_inv.m j)) _
+    (cases_from_all _ _ _ (λ (j : ℕ). word_at a.b.now (a.p.sectortable + 8 * j) ≡ get_or a.m.now j 0) (λ (j : ℕ). word_at a.b.now (a.p.sectortable + 8 * j) ≢ get_or a.m.now j 0)
+    c.all.ensures.ran (YieldsList-from_range 16 (16 * (a.p.zones - 1)) (16 * (a.p.zones - 1) - 16) refl refl) (λ x q k. search (rules, tests)) (λ x q k. search (rules, tests)))

@@ -1,11 +1,8 @@
-use Rattle.marks.proofs.MarkLaws.{claims_stop, fits_still, claims_more}
+use Rattle.marks.proofs.MarkLaws.{claims_stop, claims_more}
 use Rattle.marks.proofs.marks.mark_claims.Goals as goal
 
-pub returns-then-not-mark_pointers : goal.returns-then-not-mark_pointers
-returns-then-not-mark_pointers c = search claims_stop
+pub returns-then-mark_pointers : goal.returns-then-mark_pointers
+returns-then-mark_pointers c = claims_more _ _ _ _ c.if-mark_pointers.ensures _ _ c.mark_header_run.ensures
 
-pub mark_header_run-requires : goal.mark_header_run-requires
-mark_header_run-requires c = search fits_still
-
-pub returns : goal.returns
-returns c = search claims_more
+pub returns-else-mark_pointers : goal.returns-else-mark_pointers
+returns-else-mark_pointers c = search claims_stop

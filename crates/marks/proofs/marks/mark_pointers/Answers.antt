@@ -3,10 +3,10 @@ use borrow.Author.Rules.{rules}
 use Rattle.marks.proofs.marks.mark_pointers.Goals as goal
 
 pub loop-j-init : goal.loop-j-init
-loop-j-init c = (search rules, first_none _ _ _)
+loop-j-init c = first_none _ _ _
 
-pub pointer_at-q-requires : goal.pointer_at-q-requires
-pointer_at-q-requires c = record { t_len = search rules; at_bound = search slot_in }
+pub pointer_at-q-requires-clause-at_bound : goal.pointer_at-q-requires-clause-at_bound
+pointer_at-q-requires-clause-at_bound c = search slot_in
 
 pub returns-then-q-eq0 : goal.returns-then-q-eq0
 returns-then-q-eq0 c = search first_rest
@@ -20,7 +20,7 @@ returns-then-not-mark_run c = search first_stop
 pub loop-j-preserved : goal.loop-j-preserved
 loop-j-preserved c =
     let k = c.mark_run in
-    (search rules, first_more _ _ _ _ _ c.loop-j.invariant.1 c.pointer_at-q.result c.pointer_at-q.ensures.0 k.result _ k.ensures (search rules))
+    first_more _ _ _ _ _ c.loop-j.invariant c.pointer_at-q.result c.pointer_at-q.ensures.0 k.result _ k.ensures (search rules)
 
 pub returns : goal.returns
 returns c = search first_end

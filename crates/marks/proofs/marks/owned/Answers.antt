@@ -1,8 +1,5 @@
-use Rattle.marks.proofs.MarkLaws.{owned_stop, owned_end}
+use Rattle.marks.proofs.MarkLaws.{owned_stop}
 use Rattle.marks.proofs.marks.owned.Goals as goal
 
-pub returns-then-not-mark_all : goal.returns-then-not-mark_all
-returns-then-not-mark_all c = search owned_stop
-
-pub returns : goal.returns
-returns c = search owned_end
+pub returns-else-mark_all : goal.returns-else-mark_all
+returns-else-mark_all c = search owned_stop

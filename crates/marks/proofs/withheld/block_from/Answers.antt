@@ -6,5 +6,5 @@ block_sectors-requires c = search block_typed
 
 pub returns : goal.returns
 returns c =
-    block_is c.args.p c.args.b.now c.args.s.0 _ c.zone_of.ensures c.zone_entry-t.result c.zone_entry-t.ensures c.requires.starts_block c.requires.layout
+    block_is c.args.b.now.places c.args.b.now.raw.now c.args.s.0 _ c.zone_of.ensures c.zone_entry-t.result c.zone_entry-t.ensures c.requires.starts_block c.args.b.now.layout
     c.block_sectors.result c.block_sectors.ensures.0

@@ -1,8 +1,6 @@
-use Rattle.requests.proofs.FixedLaws.{cell_below, cell_is}
+use borrow.Author.Rules.{rules}
+use Rattle.requests.proofs.FixedLaws.{cell_below}
 use Rattle.requests.proofs.create_variable.cell_type.Goals as goal
 
-pub returns-in-Below : goal.returns-in-Below
-returns-in-Below c = cell_below _ c.in-Below.is
-
-pub returns-in-Is : goal.returns-in-Is
-returns-in-Is c = cell_is _ _ _ c.in-Is.is c.type_with.ensures
+pub returns-in_err-cell : goal.returns-in_err-cell
+returns-in_err-cell c = search (cell_below, rules)

@@ -1,16 +1,19 @@
+use Rattle.std.proofs.lemmas.Result.{err_from_is_err_and}
+use borrow.Author.Rules.{rules}
 use Rattle.requests.proofs.ListLaws.{list_refused, list_done}
 use Rattle.requests.proofs.SearchRequestLaws.{argument_layout}
 use Rattle.requests.proofs.ArgumentLaws.{argument_room}
 use Rattle.requests.proofs.list.list.Goals as goal
 
-pub returns-then-n-ne0 : goal.returns-then-n-ne0
-returns-then-n-ne0 c = search list_refused
+pub returns-in_err-check_argument : goal.returns-in_err-check_argument
+returns-in_err-check_argument c =
+    let p = err_from_is_err_and c.from_residual.result c.from_residual.ensures.1 in rw (p.1, p.2) (list_refused _ _ _ _ _ c.in_err-check_argument.ensures)
 
-pub read_places-requires : goal.read_places-requires
-read_places-requires c = search argument_room
+pub read_places-p-requires : goal.read_places-p-requires
+read_places-p-requires c = search (argument_room, c.in_ok-check_argument.ensures, rules)
 
-pub list_files-requires : goal.list_files-requires
-list_files-requires c = search argument_layout
+pub invariant_of-list_files : goal.invariant_of-list_files
+invariant_of-list_files c = record { layout = search (argument_layout, c.in_ok-check_argument.ensures, rules) }
 
 pub returns : goal.returns
-returns c = search list_done
+returns c = search (list_done, c.in_ok-check_argument.ensures, rules)

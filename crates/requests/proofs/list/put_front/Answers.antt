@@ -6,6 +6,3 @@ slice_bounds-copy-end c = search front_long
 
 pub copy-requires : goal.copy-requires
 copy-requires c = search front_fits
-
-pub returns : goal.returns
-returns c = cc

@@ -1,8 +1,5 @@
-use Rattle.requests.proofs.LongerLaws.{counts_typed, counts_are}
+use Rattle.requests.proofs.LongerLaws.{counts_typed}
 use Rattle.requests.proofs.longer.grow_counts.Goals as goal
 
 pub only_counts-requires : goal.only_counts-requires
 only_counts-requires c = search counts_typed
-
-pub returns : goal.returns
-returns c = search counts_are

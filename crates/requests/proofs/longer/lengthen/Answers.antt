@@ -1,15 +1,9 @@
-use Rattle.requests.proofs.LongerLaws.{lengthen_not, lengthen_done, lengthen_adds, lengthen_good, lengthen_layout, lengthen_parent, lengthen_low, lengthen_high}
+use Rattle.requests.proofs.LongerLaws.{lengthen_not, lengthen_done, lengthen_adds, lengthen_parent}
 use borrow.Author.Rules.{rules}
 use Rattle.requests.proofs.longer.lengthen.Goals as goal
 
-pub table-requires : goal.table-requires
-table-requires c = search (lengthen_layout, lengthen_low, lengthen_high)
-
 pub returns-then-byte_length-long : goal.returns-then-byte_length-long
 returns-then-byte_length-long c = search lengthen_not
-
-pub grow_counts-counts-requires : goal.grow_counts-counts-requires
-grow_counts-counts-requires c = search (lengthen_good, lengthen_parent)
 
 pub grow_file-requires : goal.grow_file-requires
 grow_file-requires c =

@@ -1,12 +1,11 @@
-use Rattle.requests.proofs.MountLaws.{mount_stops, mount_ready, mount_ends}
+use mathlib.Core.Path.{refl}
+use Rattle.tables.proofs.RefusalLaws.{refused}
+use Rattle.requests.proofs.MountLaws.{mount_judged, mount_stops, mount_ends}
 use borrow.Author.Rules.{rules}
 use Rattle.requests.proofs.mount.mount.Goals as goal
 
-pub returns-then-n-ne0 : goal.returns-then-n-ne0
-returns-then-n-ne0 c = search mount_stops
-
-pub put_flag-requires : goal.put_flag-requires
-put_flag-requires c = (mount_ready c.args.b.now c.args.withheld.now c.mount_number-n.result c.mount_number-n.ensures (search rules), search rules)
+pub returns-in_err-judge : goal.returns-in_err-judge
+returns-in_err-judge c = search (mount_stops, mount_judged, refused, rules)
 
 pub returns : goal.returns
-returns c = search mount_ends
+returns c = mount_ends _ _ 0 _ (mount_judged _ _ _ c.in_ok-judge.ensures.1) refl c.put_flag.ensures

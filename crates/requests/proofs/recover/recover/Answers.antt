@@ -1,17 +1,16 @@
-use Rattle.requests.proofs.StateLaws.{recover_refused, recover_room, recover_marks, recover_asks, recover_done}
+use borrow.Author.Rules.{rules}
+use mathlib.Core.Path.{refl}
+use Rattle.requests.proofs.StateLaws.{recover_room, recover_marks, recover_asks}
 use Rattle.requests.proofs.recover.recover.Goals as goal
 
-pub returns-then-n-ne0 : goal.returns-then-n-ne0
-returns-then-n-ne0 c = search recover_refused
-
 pub read_places-p-requires : goal.read_places-p-requires
-read_places-p-requires c = search recover_room
+read_places-p-requires c = search (recover_room, c.in_ok-check_recover.ensures, rules)
+
+pub invariant_of-mark_header : goal.invariant_of-mark_header
+invariant_of-mark_header c = record { layout = (recover_marks _ _ _ _ _ _ c.in_ok-check_recover.ensures refl _ c.read_places-p.ensures).0 }
 
 pub mark_header-requires : goal.mark_header-requires
-mark_header-requires c = let asks = recover_marks _ _ _ _ _ _ c.recover_number-n.ensures c.if-n-ne0.false _ c.read_places-p.ensures in record { layout = asks.0; le_f = asks.1.0; header_in_body = asks.1.1 }
+mark_header-requires c = let asks = recover_marks _ _ _ _ _ _ c.in_ok-check_recover.ensures refl _ c.read_places-p.ensures in record { le_f = asks.1.0; header_in_body = asks.1.1 }
 
 pub restore-requires : goal.restore-requires
-restore-requires c = let asks = recover_asks _ _ _ _ _ _ c.recover_number-n.ensures c.if-n-ne0.false _ c.read_places-p.ensures in record { good_some = asks.0; parent = asks.1.0; f_value = asks.1.1.0; date_len = asks.1.1.1 }
-
-pub returns : goal.returns
-returns c = search recover_done
+restore-requires c = let asks = recover_asks _ _ _ _ _ _ c.in_ok-check_recover.ensures refl _ c.read_places-p.ensures in record { good_some = asks.0; parent = asks.1.0; f_value = asks.1.1.0; date_len = asks.1.1.1 }

@@ -1,9 +1,21 @@
-use Rattle.requests.proofs.ReportLaws.{lines_short, text_made}
-use native.Mathlib.Omega.{arith}
+use Rattle.std.proofs.Common.{arith, length-append}
+use mathlib.Core.List.{append_assoc}
+use Rattle.requests.specs.Report.{lines_of}
+use Rattle.requests.proofs.ReportLaws.{lines_short}
 use Rattle.requests.proofs.report.figures_text.Goals as goal
 
-pub write_all-length-requires : goal.write_all-length-requires
-write_all-length-requires c = omega (arith, lines_short c.args.f c.requires)
+pub push_sizes-requires : goal.push_sizes-requires
+unfolding lines_of
+push_sizes-requires c = let short = lines_short c.args.f c.requires in grind (arith, length-append)
+
+pub push_files-requires : goal.push_files-requires
+unfolding lines_of
+push_files-requires c = let short = lines_short c.args.f c.requires in grind (arith, length-append)
+
+pub push_state-requires : goal.push_state-requires
+unfolding lines_of
+push_state-requires c = let short = lines_short c.args.f c.requires in grind (arith, length-append)
 
 pub returns : goal.returns
-returns c = text_made _ _ _ (omega (arith, lines_short c.args.f c.requires)) c.write_all-length.ensures
+unfolding lines_of
+returns c = rw (c.push_state.ensures, c.push_files.ensures, c.push_sizes.ensures, c.new-text.ensures) (simp append_assoc)

@@ -1,9 +1,8 @@
 use Rattle.requests.proofs.LocateLaws.{kth_on, kth_found}
-use borrow.Author.Rules.{rules}
 use Rattle.requests.proofs.sector.kth_sector.Goals as goal
 
 pub sector_of-requires : goal.sector_of-requires
-sector_of-requires c = record { layout = search rules; on_sector = search kth_on }
+sector_of-requires c = record { on_sector = search kth_on }
 
 pub returns : goal.returns
 returns c =

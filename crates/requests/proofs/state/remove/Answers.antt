@@ -1,5 +1,4 @@
-use Rattle.requests.proofs.StateLaws.{remove_active, remove_deleted, remove_system, remove_directory, remove_fits, remove_is}
-use borrow.Author.Rules.{rules}
+use Rattle.requests.proofs.StateLaws.{remove_active, remove_deleted, remove_system, remove_directory, remove_is}
 use Rattle.requests.proofs.state.remove.Goals as goal
 
 pub overflow_sub-active : goal.overflow_sub-active
@@ -13,9 +12,6 @@ overflow_sub-system c = search remove_system
 
 pub overflow_sub-directory : goal.overflow_sub-directory
 overflow_sub-directory c = search remove_directory
-
-pub put_state-requires : goal.put_state-requires
-put_state-requires c = record { layout = search rules; le_f = (search rules, search rules, search remove_fits, search rules) }
 
 pub returns : goal.returns
 returns c = search remove_is

@@ -1,4 +1,4 @@
-use Rattle.requests.proofs.StateLaws.{restore_active, restore_deleted, restore_system, restore_directory, restore_fits, restore_is}
+use Rattle.requests.proofs.StateLaws.{restore_active, restore_deleted, restore_system, restore_directory, restore_is}
 use borrow.Author.Rules.{rules}
 use Rattle.requests.proofs.state.restore.Goals as goal
 
@@ -10,9 +10,6 @@ overflow_sub-deleted c = search restore_deleted
 
 pub put_counts-requires : goal.put_counts-requires
 put_counts-requires c = record { in_bounds = search rules; system_bound = (search restore_system, search restore_directory) }
-
-pub overflow_sub-a : goal.overflow_sub-a
-overflow_sub-a c = search restore_fits
 
 pub returns : goal.returns
 returns c = search restore_is

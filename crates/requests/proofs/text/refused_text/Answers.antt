@@ -1,13 +1,12 @@
+use Rattle.std.proofs.Common.{rules, refl, arith, ap, length}
 use Rattle.requests.specs.Report.{refused_line}
-use Rattle.requests.proofs.ReportLaws.{refused_short, text_made}
-use native.Mathlib.Omega.{arith}
-use borrow.Author.Rules.{rules}
+use Rattle.requests.proofs.ReportLaws.{refused_short}
 use Rattle.requests.proofs.text.refused_text.Goals as goal
 
-pub put_line-length-requires : goal.put_line-length-requires
+pub push_line-requires : goal.push_line-requires
 unfolding refused_line
-put_line-length-requires c = omega (arith, refused_short c.args.n (search rules))
+push_line-requires c = omega (arith, ap length c.new-text.ensures, refused_short c.number.result (search rules))
 
 pub returns : goal.returns
 unfolding refused_line
-returns c = text_made (refused_line c.args.n) _ _ (omega (arith, refused_short c.args.n (search rules))) c.put_line-length.ensures
+returns c = rw (c.push_line.ensures, c.new-text.ensures, ← c.number.ensures.0) refl

@@ -6,7 +6,4 @@ use Prim.Native.Nat.{◌≤◌, ◌-◌}
 use Rattle.tables.proofs.counts.counts.Given as goal
 
 abbrev pub invariant-loop-i : goal.invariant-loop-i
-invariant-loop-i l = (l.i ≤ 6) × (l.rest ≤ 2147483647) × (length l.c ≡ 6) × (take l.i l.c ++ counts_down l.flag l.rest (6 - l.i) ≡ counts_of l.flag l.size)
-
-abbrev pub decreases-loop-i : goal.decreases-loop-i
-decreases-loop-i l = 6 - l.i
+invariant-loop-i l = (l.rest ≤ 2147483647) × (length l.c ≡ 6) × (take l.i l.c ++ counts_down l.flag l.rest (6 - l.i) ≡ counts_of l.flag l.size)

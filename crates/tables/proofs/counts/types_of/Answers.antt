@@ -10,9 +10,9 @@ pub returns-then-n-ne0 : goal.returns-then-n-ne0
 unfolding types_of
 returns-then-n-ne0 c = search conds depth 8
 
-pub returns-then-n-gt252 : goal.returns-then-n-gt252
+pub returns-then-n-gt-ALL : goal.returns-then-n-gt-ALL
 unfolding types_of
-returns-then-n-gt252 c = search conds depth 8
+returns-then-n-gt-ALL c = search conds depth 8
 
 pub returns : goal.returns
 unfolding types_of

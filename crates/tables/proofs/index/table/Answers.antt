@@ -10,5 +10,5 @@ pub returns : goal.returns
 unfolding table_at
 returns c =
     let a = c.args in
-    let e : a.p.indextable + 128 * (a.i.0 - 1) + 128 - (a.p.indextable + 128 * (a.i.0 - 1)) ≡ 128 = omega arith in
-    rw e (refl, length_table a.p a.b.now a.i.0 (search rules) (search rules) (search rules))
+    let e : a.b.now.places.indextable + 128 * (a.i.0 - 1) + 128 - (a.b.now.places.indextable + 128 * (a.i.0 - 1)) ≡ 128 = omega arith in
+    rw e (refl, length_table a.b.now.places a.b.now.raw.now a.i.0 (search rules) (search rules) (search rules))

@@ -1,23 +1,29 @@
+use Prim.Native.Nat.{ℕ, ◌-◌}
+use mathlib.Core.Path.{refl, ◌∙◌}
+use native.Mathlib.Omega.{arith}
+use borrow.Author.Rules.{rules}
+use Rattle.std.proofs.Common.{tests}
+use Rattle.std.proofs.lemmas.Iterator.{YieldsList-from_range, YieldsList-from_map}
+use Rattle.std.proofs.lemmas.Iterator.Consumers.{YieldsList-at, sum_from_yields_List}
+use Rattle.std.proofs.lemmas.Iterator.Adapters.{fits_from_length, at_most_from_yields_List}
+use Rattle.std.proofs.lemmas.List.FromFn.{length-range_with_len}
+use Rattle.tables.proofs.RangeLaws.{sum_range}
 use Rattle.tables.specs.Room.{spare_in, spare_of}
 use Rattle.tables.specs.Zones.{zone_at}
-use Rattle.field.proofs.Sums.{sum_more}
-use Rattle.field.specs.Sum.{sum_to}
-use native.Mathlib.Omega.{arith}
-use Prim.Native.Nat.{ℕ, ◌+◌, ◌-◌}
-use mathlib.Core.Path.{◌≡◌, refl, sym, ap, ap₂, ◌∙◌}
-use borrow.Author.Rules.{rules}
 use Rattle.tables.proofs.room.spare_of.Goals as goal
 
-pub loop-i-init : goal.loop-i-init
-unfolding sum_to
-loop-i-init c = (search rules, refl, search rules)
-
-pub loop-i-preserved : goal.loop-i-preserved
-loop-i-preserved c = (search rules, ap₂ (λ (x y : ℕ). x + y) c.loop-i.invariant.1 (c.spare_in-n.ensures.0 ∙ ap (spare_in _) c.zone_entry.ensures) ∙ sym (sum_more _ _), omega arith)
+pub sum-requires-clause-fits : goal.sum-requires-clause-fits
+sum-requires-clause-fits c =
+    fits_from_length _ _ 254 _
+    (at_most_from_yields_List (YieldsList-at c.map.ensures.source (YieldsList-from_range 2 c.args.b.now.places.zones (c.args.b.now.places.zones - 2) refl refl)) (omega (arith, length-range_with_len 2 (c.args.b.now.places.zones - 2))))
+    c.map.ensures.closure (omega arith) (λ x r q k. search (rules, tests))
 
 pub returns : goal.returns
 unfolding spare_of
 returns c =
     let a = c.args in
-    let e : c.loop-i.i ≡ a.p.zones - 2 = omega arith in
-    c.loop-i.invariant.1 ∙ ap (λ (m : ℕ). sum_to m (λ i. spare_in a.t (zone_at a.p a.b.now (i + 2)))) e
+    sum_from_yields_List c.map.result _ c.sum.ensures.ran
+    (YieldsList-from_map _ (λ (z : ℕ). spare_in a.t (zone_at a.b.now.places a.b.now.raw.now z))
+    (YieldsList-at c.map.ensures.source (YieldsList-from_range 2 a.b.now.places.zones (a.b.now.places.zones - 2) refl refl))
+    c.map.ensures.closure (λ x r q k. search (rules, tests)))
+    ∙ sum_range (λ z. spare_in a.t (zone_at a.b.now.places a.b.now.raw.now z)) (a.b.now.places.zones - 2) 2

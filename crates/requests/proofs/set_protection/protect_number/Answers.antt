@@ -1,5 +1,0 @@
-use Rattle.requests.proofs.StateLaws.{protect_asked}
-use Rattle.requests.proofs.set_protection.protect_number.Goals as goal
-
-pub returns : goal.returns
-returns c = search protect_asked

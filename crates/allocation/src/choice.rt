@@ -159,6 +159,8 @@ fn neighbour(b: &Books<'_>, l: Tail, t: u32) -> Option<Found>
 }
 
 // The block of type t that is added after the tail l: the neighbour if there is one, else the next one, which is not looked for below `from`.
+// Inlined, because each of the two ways to add blocks calls it once a block.
+#[inline(always)]
 pub fn choose_block(b: &Books<'_>, l: Tail, t: u32, from: Found) -> Choice
     requires data_type { DataType t }
     requires r3 { R3 (books_view b.now) }

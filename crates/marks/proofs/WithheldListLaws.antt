@@ -1,13 +1,9 @@
 -- The withheld list, gone through: what is asked of each sector is what is asked of the list, and its blocks are marked one after the other.
-use mathlib.Core.Path.{◌≡◌, refl, sym, ap, ◌∙◌}
+use mathlib.Core.Path.{◌≡◌, refl, ap, ◌∙◌}
 use mathlib.Core.Bool.{Bool, true, false}
 use mathlib.Core.List.{List}
 use Prim.Native.Nat.{ℕ, ◌+◌, ◌≤◌, ◌<◌}
 use native.Mathlib.Omega.{arith}
-use lib.Dec.{ltb}
-use borrow.Author.Tests.{ltb-true, ltb-false}
-use native.Mathlib.Numerals.{add-one}
-use Rattle.std.specs.List.{IsAllAdjacentAnswer}
 use lib.ListN.{get_or, length, replicate, length-replicate}
 use Rattle.field.specs.Says.{Says}
 use Rattle.field.specs.Sum.{sum_to}
@@ -25,7 +21,7 @@ use Rattle.tables.specs.Rules.R7.{nothing}
 use Rattle.tables.proofs.BlockLaws.{data_zone}
 use Rattle.tables.proofs.WithheldLaws.{start_within, withheld_once}
 use Rattle.marks.specs.Marks.{MarksAdded, Adds, MarksAre}
-use Rattle.marks.specs.WithheldList.{Ascends, first_withheld}
+use Rattle.marks.specs.WithheldList.{first_withheld}
 use Rattle.marks.proofs.MarkLaws.{zeros_clear}
 
 -- ---- a sector
@@ -45,12 +41,6 @@ module _ (p : Places) (b : List ℕ) (s : ℕ) where
     block_is h lay size of =
         let same : size ≡ block_at (view_of p b) s = of ∙ ap block_of entry_type in
         (refl, same, omega (arith, start_within (view_of p b) s h, h.inside, lay.most))
-
--- ---- the list
-
-pub ascends_says : (xs : List ℕ) (r : Bool) → IsAllAdjacentAnswer (λ x y b. b ≡ ltb x y) xs r → Says r (Ascends xs)
-ascends_says xs true h = λ k l. ltb-true _ _ (sym (rw (add-one k) at (h k 0 (omega arith))))
-ascends_says xs false h = λ up. absurd (omega (arith, ltb-false _ _ (sym (h.2 0)), up h.0 (omega (arith, h.1)), add-one h.0, ap (λ (k : ℕ). get_or xs k 0) (add-one h.0)))
 
 -- ---- marks
 

@@ -1,12 +1,13 @@
 -- The withheld list as it is gone through.
-use Rattle.std.specs.Prelude.{List, ℕ, suc, ◌<◌, get_or, length}
+use Rattle.std.specs.Prelude.{◌≡◌, List, ℕ, suc, ◌<◌, get_or}
 use Rattle.field.specs.Sum.{sum_to}
 use Rattle.tables.specs.Views.{View, cov}
-use Rattle.tables.specs.Withheld.{block_at}
+use Rattle.tables.specs.Withheld.{block_at, StartsBlock}
 
--- "strictly ascending by first sector"
-abbrev pub Ascends : List ℕ → Type 0
-Ascends withheld = (k : ℕ) → suc k < length withheld → get_or withheld k 0 < get_or withheld (suc k) 0
+-- what is asked of the k-th sector: it is above the one before, and starts a block
+pub record InList (v : View) (withheld : List ℕ) (k : ℕ) : Type 0 where
+  pub above : (j : ℕ) → suc j ≡ k → get_or withheld j 0 < get_or withheld k 0
+  pub starts : StartsBlock v (get_or withheld k 0)
 
 -- how many of the first n withheld blocks lie over sector s
 unfoldable pub first_withheld : View → List ℕ → ℕ → ℕ → ℕ

@@ -6,7 +6,7 @@ ghost use Rattle.tables.specs.Views.{books_view};
 ghost use Rattle.tables.specs.Withheld.{block_at, StartsBlock, Withholds, withheld_over};
 ghost use Rattle.tables.specs.Rules.R7.{nothing};
 ghost use Rattle.marks.specs.Marks.{MarksAre};
-ghost use Rattle.marks.specs.WithheldList.{Ascends};
+ghost use Rattle.marks.specs.WithheldList.{InList};
 
 use crate::marks::mark_run;
 use tables::blocks::{block_sectors, is_data_type};
@@ -30,20 +30,22 @@ fn starts_block(b: &Books<'_>, s: Sector) -> bool
     is_data_type(t) && s.0 % ZONE % block_sectors(t) == 0
 }
 
-// Is each sector of the list above the one before it?
-fn ascends(withheld: &[u32]) -> bool
-    ensures { Says result (Ascends withheld.now) }
+// Is the k-th sector of the list above the one before it, and does it start a block?
+fn in_list(b: &Books<'_>, withheld: &[u32], k: usize) -> bool
+    requires { k < length withheld.now }
+    ensures { Says result (InList (books_view b.now) withheld.now k) }
 {
-    withheld.is_sorted_by(|before, next| before < next)
+    if k > 0 && withheld[k - 1] >= withheld[k] {
+        return false;
+    }
+    starts_block(b, Sector(withheld[k]))
 }
 
-// 7: the list is short, each sector is above the one before it, and each starts a block.
+// 7: each sector of the list is looked at once.
 pub fn withholds(b: &Books<'_>, withheld: &[u32]) -> bool
     ensures { Says result (Withholds (books_view b.now) withheld.now) }
 {
-    withheld.len() <= MOST
-        && ascends(withheld)
-        && withheld.iter().all(|s| starts_block(b, Sector(*s)))
+    withheld.len() <= MOST && (0..withheld.len()).all(|k| in_list(b, withheld, k))
 }
 
 // The sectors of the block that begins at s.

@@ -77,7 +77,7 @@ fn push_state(text: &mut Text, f: Figures)
 
 fn figures_text(f: Figures) -> Text
     requires { Small f }
-    ensures { result ≡ lines_of f }
+    ensures { (result ≡ lines_of f) × (length result ≤ 148) }
 {
     let mut text = Text::new();
     push_sizes(&mut text, f);

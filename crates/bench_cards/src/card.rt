@@ -6,10 +6,13 @@ use requests::create_fixed::create_fixed;
 use requests::create_variable::create_variable;
 use requests::format::format;
 use requests::grow::grow;
+use requests::kinds::Index;
+use requests::label::Label;
 use requests::list::list;
 use requests::locate::locate;
 use requests::mount::mount;
 use requests::recover::recover;
+use requests::refusal::Refusal;
 use requests::search::search;
 use requests::set_protection::set_protection;
 use requests::show::check_show;
@@ -17,9 +20,6 @@ use requests::space::space_of;
 use requests::temporary_delete::temporary_delete;
 use std::io;
 use tables::counts::chosen_types;
-use tables::kinds::Index;
-use tables::label::Label;
-use tables::refusal::Refusal;
 
 // Formats the books for Z zones and N index tables.
 pub fn format_books(rt: &impl Print, b: &mut [u8], zones: u32, indexes: u32) -> io::Result<()> {

@@ -6,12 +6,12 @@ use requests::amount::amount_of;
 use requests::create_fixed::create_fixed;
 use requests::read::read;
 use requests::recover::recover;
+use requests::refusal::Refusal;
 use requests::show::show;
 use requests::temporary_delete::temporary_delete;
 use requests::write::write;
 use std::io;
 use tables::counts::chosen_types;
-use tables::refusal::Refusal;
 
 // The number and how many bytes were moved.
 fn say_moved(rt: &impl Print, answer: Result<u32, Refusal>) -> io::Result<()> {

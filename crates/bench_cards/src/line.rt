@@ -2,8 +2,8 @@
 // A file's length and pointers are read from its parent, a zone's type and free count from the zone table.
 use field::numbers::{get_u16, get_u32};
 use field::parts::same;
+use requests::refusal::Refusal;
 use std::io;
-use tables::refusal::Refusal;
 
 // This paper's number of an answer.
 pub fn number_of<T: Copy>(answer: Result<T, Refusal>) -> u32 {

@@ -33,12 +33,15 @@ use requests::create_variable::create_variable;
 use requests::dismount::dismount;
 use requests::format::format;
 use requests::grow::grow;
+use requests::kinds::{Index, Sector};
+use requests::label::Label;
 use requests::list::list;
 use requests::locate::locate;
 use requests::mount::mount;
 use requests::place_header::place_header;
 use requests::read::read;
 use requests::recover::recover;
+use requests::refusal::Refusal;
 use requests::report::{Text, report};
 use requests::search::search;
 use requests::set_protection::set_protection;
@@ -48,9 +51,6 @@ use requests::space::{Space, space_of};
 use requests::temporary_delete::temporary_delete;
 use requests::write::write;
 use tables::counts::chosen_types;
-use tables::kinds::{Index, Sector};
-use tables::label::Label;
-use tables::refusal::Refusal;
 
 // The number of an answer, 0 where it is done.
 fn number_of<T: Copy>(answer: Result<T, Refusal>) -> u32

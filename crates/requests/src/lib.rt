@@ -1,6 +1,9 @@
 // The upper part: one public module per request, over what the lower part promises; what requests share stands in private modules.
 #![tactic(auto)]
 
+// What requests take and answer is named through this crate too, so that its callers need not know the lower part.
+pub use tables::{kinds, label, refusal};
+
 mod active;
 pub mod actual_delete;
 pub mod amount;

@@ -109,7 +109,12 @@ $(BIN)/broken: $(RATTLE)
 	@mkdir -p $(BIN)
 	cp crates/broken/out/broken $@
 
-test: tools-c tools-cxx tools-run $(BIN)/border $(BIN)/card $(BIN)/card_cut $(BIN)/broken $(EXAMPLES)
+# What gives the program broken its input as one message
+$(BIN)/message: tests/broken/message.c | tools-c
+	@mkdir -p $(BIN)
+	$(CC) $(C99) $(LDFLAGS) $< -o $@
+
+test: tools-c tools-cxx tools-run $(BIN)/border $(BIN)/card $(BIN)/card_cut $(BIN)/broken $(BIN)/message $(EXAMPLES)
 	CC='$(CC)' CXX='$(CXX)' NM='$(NM)' EMULATOR='$(EMULATOR)' tests/run.sh
 
 MODEL = ISC_LIB_DIR=$(CURDIR)/target/staticlib CARGO_TARGET_DIR=$(CURDIR)/target/model tests/model/build-lib.sh $(CHANGES)
@@ -137,4 +142,4 @@ install: $(LIB) $(BIN)/card
 	sed -e 's|@PREFIX@|$(PREFIX)|' -e 's|@VERSION@|$(VERSION)|' isc.pc.in > $(DESTDIR)$(PREFIX)/lib/pkgconfig/isc.pc
 
 clean:
-	rm -rf $(LIB) $(BIN)/card $(BIN)/card_cut $(BIN)/border $(BIN)/broken $(EXAMPLES) $(FIGURES) target/model
+	rm -rf $(LIB) $(BIN)/card $(BIN)/card_cut $(BIN)/border $(BIN)/broken $(BIN)/message $(EXAMPLES) $(FIGURES) target/model

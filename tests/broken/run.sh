@@ -1,5 +1,6 @@
 #!/bin/sh
-# Runs the program `broken` on the card crates/broken/stdin, damaged as the table tests/broken/cases says, and compares its lines with the table's.
+# Runs the program `broken` on the card crates/broken/stdin, damaged as the table tests/broken/cases says, and compares its lines with the table's;
+# and once on a longer card that comes as one message of a socket. EMULATOR: what runs target/bin/message, empty where the processor does.
 # Prints a line for each case and last "N passed, M failed"; exit 1 if any failed.
 set -u
 cd "$(dirname "$0")/../.."
@@ -21,10 +22,9 @@ damage() {
     done
 }
 
-verdict() {
-    # shellcheck disable=SC2086
-    damage $changes
-    if ./run broken <"$work/card" >"$work/lines" 2>&1 && diff "$work/wanted" "$work/lines" >"$work/said"; then
+# Runs a command that gives the card to the program, and compares the lines.
+compared() {
+    if "$@" <"$work/card" >"$work/lines" 2>&1 && diff "$work/wanted" "$work/lines" >"$work/said"; then
         echo "ok broken: $name"
         passed=$((passed + 1))
     else
@@ -32,6 +32,12 @@ verdict() {
         cat "$work/said"
         failed=$((failed + 1))
     fi
+}
+
+verdict() {
+    # shellcheck disable=SC2086
+    damage $changes
+    compared ./run broken
 }
 
 { grep -v '^#' tests/broken/cases; echo; } >"$work/cases"
@@ -49,5 +55,12 @@ while IFS= read -r line; do
         echo "$line" >>"$work/wanted"
     fi
 done <"$work/cases"
+
+# One byte too many for whole sectors, which a program that loses the message's end does not see: 1.
+name='a card of 20,481 bytes in one message'
+{ cat crates/broken/stdin && head -c 15361 /dev/zero; } >"$work/card"
+echo 'refused=1' >"$work/wanted"
+# shellcheck disable=SC2086
+compared ${EMULATOR:-} target/bin/message "$work/card" ./run broken
 echo "$passed passed, $failed failed"
 [ "$failed" -eq 0 ]

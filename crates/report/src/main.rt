@@ -2,14 +2,34 @@
 // Books of more than 65,536 bytes are refused as 1: one byte more is read, which no number of whole sectors has.
 #![tactic(auto)]
 
+ghost use Rattle.std.specs.Prelude.{◌≤◌, length, IfOk};
+
 use requests::report::report;
 use std::io;
-use std::io::Read;
+use std::io::{ErrorKind, Read};
+
+// Reads until the buffer is full or the input ends, and says how many bytes there are. Each read has all the room that is left, since of a
+// message that finds less the rest is lost; std's `copy` reads 8,192 bytes at a time. A read that was interrupted is tried again.
+fn read_full(input: &mut impl Read, buffer: &mut [u8]) -> io::Result<usize>
+    ensures { IfOk result (λ n. n ≤ length buffer.new) }
+{
+    let mut done = 0;
+    for _ in 0..u64::MAX {
+        if done == buffer.len() {
+            break;
+        }
+        match input.read(&mut buffer[done..]) {
+            Ok(0) => break,
+            Ok(n) => done += n,
+            Err(e) if e.kind() == ErrorKind::Interrupted => {}
+            Err(e) => return Err(e),
+        }
+    }
+    Ok(done)
+}
 
 fn main(rt: HostRuntime) -> io::Result<()> {
     let mut books = [0u8; 65537];
-    // No more comes than there is room for, which `copy` does not promise: hence `min`.
-    let n = io::copy(&mut rt.stdin().take(65537), &mut &mut books[..])?;
-    let t = report(&books[..books.len().min(n as usize)], &[0u32; 0]);
-    rt.write_all(t.as_bytes())
+    let n = read_full(&mut rt.stdin(), &mut books)?;
+    rt.write_all(report(&books[..n], &[0u32; 0]).as_bytes())
 }

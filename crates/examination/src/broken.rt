@@ -27,7 +27,9 @@ fn zone_fault(b: &Books<'_>) -> Option<Fault>
     if let Some(s) = rule1_place(b) {
         return Some(Fault::AtSector(1, Sector(s)));
     }
-    if let Some(z) = rule2(b) {
+    // By a name, so that the goal of this way out keeps its own whatever rule is asked: the edit `rules_exchanged` has to be refused for the rule.
+    let entry = rule2(b);
+    if let Some(z) = entry {
         return Some(Fault::AtZone(2, Zone(z)));
     }
     let z = rule3(b)?;

@@ -6,10 +6,10 @@ ghost use Rattle.std.specs.Prelude.{◌≤◌, length, IfOk};
 
 use requests::broken_text::broken_text;
 use std::io;
-use std::io::{ErrorKind, Read};
+use std::io::Read;
 
 // Reads until the buffer is full or the input ends, and says how many bytes there are. Each read has all the room that is left, since of a
-// message that finds less the rest is lost; std's `copy` reads 8,192 bytes at a time. A read that was interrupted is tried again.
+// message that finds less the rest is lost, and one that fails ends the program; std's `copy` reads 8,192 bytes at a time, and tries again.
 fn read_full(input: &mut impl Read, buffer: &mut [u8]) -> io::Result<usize>
     ensures { IfOk result (λ n. n ≤ length buffer.new) }
 {
@@ -18,12 +18,11 @@ fn read_full(input: &mut impl Read, buffer: &mut [u8]) -> io::Result<usize>
         if done == buffer.len() {
             break;
         }
-        match input.read(&mut buffer[done..]) {
-            Ok(0) => break,
-            Ok(n) => done += n,
-            Err(e) if e.kind() == ErrorKind::Interrupted => {}
-            Err(e) => return Err(e),
+        let n = input.read(&mut buffer[done..])?;
+        if n == 0 {
+            break;
         }
+        done += n;
     }
     Ok(done)
 }

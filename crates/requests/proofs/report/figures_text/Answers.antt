@@ -1,4 +1,5 @@
-use Rattle.std.proofs.Common.{◌≡◌, arith, length-append}
+use Rattle.std.proofs.Common.{◌≡◌, arith, length, length-append}
+use mathlib.Core.Path.{ap}
 use mathlib.Core.List.{append_assoc}
 use Rattle.requests.specs.Report.{lines_of}
 use Rattle.requests.proofs.ReportLaws.{lines_short}
@@ -20,4 +21,4 @@ pub returns : goal.returns
 unfolding lines_of
 returns c =
     let text : c.push_state.new.text ≡ lines_of c.args.f = rw (c.push_state.ensures, c.push_files.ensures, c.push_sizes.ensures, c.new-text.ensures) (simp append_assoc) in
-    (text, rw text (lines_short c.args.f c.requires))
+    (text, omega (arith, ap length text, lines_short c.args.f c.requires))

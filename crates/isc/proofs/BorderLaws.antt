@@ -3,19 +3,11 @@ use Rattle.std.specs.Prelude.{Option, Result}
 use mathlib.Core.Path.{◌≡◌, refl, sym, ap, ◌∙◌}
 use mathlib.Core.Bool.{Bool}
 use mathlib.Core.List.{List}
-use Prim.Native.Nat.{ℕ, ◌≤◌, ◌<◌}
+use Prim.Native.Nat.{ℕ, ◌≤◌}
 use native.Mathlib.Decide.{dec_lt}
 use native.Mathlib.Omega.{arith}
 use lib.ListN.{length}
-use lib.IntN.{ℤ}
 use Rattle.field.specs.Parts.{over}
-use Rattle.tables.specs.declared.kinds.Sector.{Sector}
-use Rattle.examination.specs.declared.fault.Fault.{Fault}
-use Rattle.examination.specs.Faults.{rule_of, place_kind_of, fault_place}
-use Rattle.requests.specs.declared.space.Space.{Space}
-use Rattle.tables.specs.Format.{Label}
-use Rattle.requests.specs.Amounts.{amount_of}
-use Rattle.requests.specs.Format.{Formatted}
 use Rattle.tables.specs.Gates.{Test}
 use Rattle.tables.specs.Books.{book_tests}
 use Rattle.tables.proofs.GateLaws.{gate_one}
@@ -24,7 +16,7 @@ use Rattle.tables.specs.Refusals.{number_of}
 use Rattle.tables.specs.declared.refusal.Refusal.{Refusal}
 use Rattle.requests.proofs.SpaceLaws.{spaced_one}
 use Rattle.requests.specs.Report.{report_of, Reported}
-use Rattle.requests.specs.Diagnosis.{rule_value, kind_value, place_value, Diagnosed, diagnosis_lines, DiagnosisText}
+use Rattle.requests.specs.Diagnosis.{rule_value, kind_value, place_value, diagnosis_lines, DiagnosisText}
 use Rattle.requests.proofs.DiagnosisLaws.{diagnosed_one}
 use Rattle.allocation.specs.NewTables.{New}
 use Rattle.requests.specs.Create.{id_value, Creates}

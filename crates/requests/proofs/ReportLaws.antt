@@ -4,7 +4,7 @@ use Rattle.tables.specs.Refusals.{number}
 use Rattle.tables.proofs.RefusalLaws.{refused}
 use mathlib.Core.Path.{◌≡◌, refl, sym, ap, ◌∙◌}
 use mathlib.Core.Logic.{inl, inr, ◌≢◌}
-use mathlib.Core.List.{List, [], ◌∷◌, ◌++◌}
+use mathlib.Core.List.{List}
 use Prim.Native.Nat.{ℕ, zero, suc, ◌+◌, ◌-◌, ◌*◌, ◌^◌, ◌≤◌, ◌<◌}
 use native.Mathlib.Omega.{arith}
 use lib.ListN.{length, length-append}
@@ -22,7 +22,7 @@ use Rattle.requests.specs.declared.report.Figures.{Figures}
 use Rattle.requests.specs.declared.text.Text.{Text}
 use Rattle.requests.specs.Space.{used_sectors}
 use Rattle.requests.specs.Text.{line_of}
-use Rattle.requests.specs.Report.{zones_line, sectors_line, used_line, indexes_line, free_line, active_line, deleted_line, system_line, directory_line, open_line, mounted_line, size_lines, file_lines, state_lines, lines_of, refused_line, Small, figures_of, report_of, Reported}
+use Rattle.requests.specs.Report.{size_lines, file_lines, state_lines, lines_of, refused_line, Small, figures_of, report_of, Reported}
 use Rattle.requests.proofs.TextLaws.{line_length, decimal_few}
 use Rattle.requests.proofs.RequestLaws.{good_few}
 
@@ -30,32 +30,20 @@ use Rattle.requests.proofs.RequestLaws.{good_few}
 pub line_short : (name : List ℕ) (k n : ℕ) → n < 10 ^ (k + 1) → length (line_of name n) ≤ length name + k + 2
 line_short name k n h = omega (arith, line_length name n, decimal_few k n h)
 
-three : (a b c : List ℕ) → length (a ++ (b ++ c)) ≡ length a + (length b + length c)
-three a b c = omega (arith, length-append a (b ++ c), length-append b c)
+-- a line of a small figure: of six digits at most, of four, of three
+pub line_few : (name : List ℕ) (n : ℕ) → n < 1000000 → length (line_of name n) ≤ length name + 7
+line_few name n h = omega (arith, line_short name 5 n h)
 
-four : (a b c d : List ℕ) → length (a ++ (b ++ (c ++ d))) ≡ length a + (length b + (length c + length d))
-four a b c d = omega (arith, length-append a (b ++ (c ++ d)), three b c d)
+line_four : (name : List ℕ) (n : ℕ) → n < 10000 → length (line_of name n) ≤ length name + 5
+line_four name n h = omega (arith, line_short name 3 n h)
 
--- the digits that each figure can have, line by line: no report is longer than 148 bytes
-module _ (f : Figures) (s : Small f) where
-  sizes_short : length (size_lines f) ≤ 51
-  unfolding size_lines
-  sizes_short =
-      omega (arith, four (zones_line f) (sectors_line f) (used_line f) (indexes_line f), line_short (122 ∷ 111 ∷ 110 ∷ 101 ∷ 115 ∷ 61 ∷ []) 2 f.zones (omega (arith, s.zones)), line_short (115 ∷ 101 ∷ 99 ∷ 116 ∷ 111 ∷ 114 ∷ 115 ∷ 61 ∷ []) 5 f.sectors (omega (arith, s.sectors)), line_short (117 ∷ 115 ∷ 101 ∷ 100 ∷ 61 ∷ []) 5 f.used (omega (arith, s.used)), line_short (105 ∷ 110 ∷ 100 ∷ 101 ∷ 120 ∷ 101 ∷ 115 ∷ 61 ∷ []) 3 f.indexes (omega (arith, s.indexes)))
+line_three : (name : List ℕ) (n : ℕ) → n < 1000 → length (line_of name n) ≤ length name + 4
+line_three name n h = omega (arith, line_short name 2 n h)
 
-  files_short : length (file_lines f) ≤ 55
-  unfolding file_lines
-  files_short =
-      omega (arith, four (free_line f) (active_line f) (deleted_line f) (system_line f), line_short (102 ∷ 114 ∷ 101 ∷ 101 ∷ 95 ∷ 105 ∷ 110 ∷ 100 ∷ 101 ∷ 120 ∷ 101 ∷ 115 ∷ 61 ∷ []) 3 f.free (omega (arith, s.free)), line_short (97 ∷ 99 ∷ 116 ∷ 105 ∷ 118 ∷ 101 ∷ 61 ∷ []) 3 f.active (omega (arith, s.active)), line_short (100 ∷ 101 ∷ 108 ∷ 101 ∷ 116 ∷ 101 ∷ 100 ∷ 61 ∷ []) 3 f.deleted (omega (arith, s.deleted)), line_short (115 ∷ 121 ∷ 115 ∷ 116 ∷ 101 ∷ 109 ∷ 61 ∷ []) 3 f.system (omega (arith, s.system)))
-
-  state_short : length (state_lines f) ≤ 42
-  unfolding state_lines
-  state_short =
-      omega (arith, three (directory_line f) (open_line f) (mounted_line f), line_short (100 ∷ 105 ∷ 114 ∷ 101 ∷ 99 ∷ 116 ∷ 111 ∷ 114 ∷ 121 ∷ 61 ∷ []) 3 f.directory (omega (arith, s.directory)), line_short (111 ∷ 112 ∷ 101 ∷ 110 ∷ 95 ∷ 122 ∷ 111 ∷ 110 ∷ 101 ∷ 115 ∷ 61 ∷ []) 2 f.openzones (omega (arith, s.openzones)), line_short (109 ∷ 111 ∷ 117 ∷ 110 ∷ 116 ∷ 101 ∷ 100 ∷ 61 ∷ []) 0 f.mounted (omega (arith, s.mounted)))
-
-  pub lines_short : length (lines_of f) ≤ 148
-  unfolding lines_of
-  lines_short = omega (arith, three (size_lines f) (file_lines f) (state_lines f), sizes_short, files_short, state_short)
+-- no report is longer
+pub lines_short : (f : Figures) → Small f → length (lines_of f) ≤ 148
+unfolding lines_of size_lines file_lines state_lines
+lines_short f s = grind (arith, length-append, line_few, line_four, line_three)
 
 pub refused_short : (n : ℕ) → n < 4294967296 → length (refused_line n) ≤ 19
 unfolding refused_line
